@@ -3,7 +3,7 @@ use mathlib.Core.Bool.{Bool}
 use Prim.Native.Nat.{ℕ}
 use Rattle.std.specs.Options.{mapped}
 use Rattle.std.specs.declared.option.Option.{Option}
-use Rattle.std.specs.declared.option.Option.the-variants.{Some, None}
+use Rattle.std.specs.declared.option.Option.the-variants.{None}
 use Rattle.traffic.specs.Arrivals.{Steps}
 use Rattle.traffic.specs.Curves.{Numbers}
 use Rattle.traffic.specs.declared.mixture.Mixture.{Mixture}

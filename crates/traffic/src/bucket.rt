@@ -1,9 +1,5 @@
 // Bucket traffic: up to `depth` packets at once, and one more every period.
-ghost use mathlib.Core.Path.{_≡_};
-ghost use mathlib.Core.Bool.{Bool, true, false};
-ghost use Prim.Native.Nat.{ℕ, _≤_};
 ghost use Rattle.traffic.specs.Bucket.{bucket, bucket-limits, bucket-steps};
-
 use crate::Curve;
 use crate::FRAME;
 use crate::Traffic;
@@ -24,7 +20,14 @@ pub impl Curve for Bucket as BucketCurve {
     ghost dated = { λ k e. record { period = k .period; longest = k .longest; depth = k .depth; allowance = e } };
 
     fn within(&self, p: u32) -> bool {
-        1 <= self.period && FRAME % self.period == 0 && 1 <= self.longest && self.longest <= p && 1 <= self.depth && self.depth <= 8 && self.longest <= self.allowance && self.allowance <= 40320
+        1 <= self.period
+            && FRAME % self.period == 0
+            && 1 <= self.longest
+            && self.longest <= p
+            && 1 <= self.depth
+            && self.depth <= 8
+            && self.longest <= self.allowance
+            && self.allowance <= 40320
     }
 
     fn allowance(&self) -> u32 {
@@ -47,7 +50,8 @@ pub impl Curve for Bucket as BucketCurve {
         if t < self.allowance {
             return 0;
         }
-        u64::from(self.longest) * (u64::from((t - self.allowance) / self.period) + u64::from(self.depth))
+        u64::from(self.longest)
+            * (u64::from((t - self.allowance) / self.period) + u64::from(self.depth))
     }
 
     fn next_rise(&self, t: u32) -> Option<u64> {

@@ -1,12 +1,13 @@
 // Traffic kinds: what a channel may send, and how much of the air it may ask for.
 ghost use mathlib.Core.Path.{_≡_};
-ghost use mathlib.Core.Bool.{Bool, true, false};
+ghost use mathlib.Core.Bool.{Bool, true};
 ghost use Prim.Native.Nat.{ℕ, _≤_};
 ghost use Rattle.traffic.specs.Arrivals.{Steps, Stepped};
 ghost use Rattle.traffic.specs.Curves.{Numbers, NextRise};
 ghost use Rattle.traffic.specs.Laws.{Within, CurveLaws, Redated, TrafficLaws};
 
 pub mod bucket;
+pub mod examples;
 pub mod mixture;
 pub mod spaced;
 

@@ -1,9 +1,5 @@
 // A mixture: each channel is of one of two kinds, and may itself be a mixture.
-ghost use mathlib.Core.Path.{_≡_};
-ghost use mathlib.Core.Bool.{Bool, true, false};
-ghost use Prim.Native.Nat.{ℕ, _≤_};
 ghost use Rattle.traffic.specs.Mixture.{mixed-numbers, mixed-limits, mixed-dated, mixed-steps};
-
 use crate::Curve;
 use crate::Traffic;
 

@@ -1,9 +1,5 @@
 // Spaced traffic: packets at least a period apart.
-ghost use mathlib.Core.Path.{_≡_};
-ghost use mathlib.Core.Bool.{Bool, true, false};
-ghost use Prim.Native.Nat.{ℕ, _≤_};
 ghost use Rattle.traffic.specs.Spaced.{spaced, spaced-limits, spaced-steps};
-
 use crate::Curve;
 use crate::FRAME;
 use crate::Traffic;
@@ -23,7 +19,12 @@ pub impl Curve for Spaced as SpacedCurve {
     ghost dated = { λ k e. record { period = k .period; longest = k .longest; allowance = e } };
 
     fn within(&self, p: u32) -> bool {
-        1 <= self.period && FRAME % self.period == 0 && 1 <= self.longest && self.longest <= p && self.longest <= self.allowance && self.allowance <= 40320
+        1 <= self.period
+            && FRAME % self.period == 0
+            && 1 <= self.longest
+            && self.longest <= p
+            && self.longest <= self.allowance
+            && self.allowance <= 40320
     }
 
     fn allowance(&self) -> u32 {

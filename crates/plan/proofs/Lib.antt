@@ -1,0 +1,14 @@
+pub mod Blanks
+pub mod Breaks
+pub mod Broken
+pub mod Cuts
+pub mod Decimals
+pub mod Failed
+pub mod Laws
+pub mod Listed
+pub mod Parsed
+pub mod Parts
+pub mod Same
+pub mod Spelled
+pub mod Stops
+pub mod Words

@@ -1,0 +1,4 @@
+pub mod Format
+pub mod Lines
+pub mod Reading
+pub mod Steps

@@ -1,0 +1,4 @@
+pub mod Exactness
+pub mod FinitePoints
+pub mod Rows
+pub mod Walks

@@ -1,0 +1,4 @@
+pub mod Demand
+pub mod Judged
+pub mod Passes
+pub mod Points
