@@ -39,7 +39,7 @@ module _ (bytes : List ℕ) (short : length bytes ≤ 16384) where
 
   pub read-no-count : (e : Fault) → NextCount 1 (cut bytes) [] (Err e) → Read bytes (Err e)
   read-no-count (Malformed s l) (p, q, lacks) = stopped 1 0 s l p q (stops-at-first-count (cut bytes) (lacks 1 (omega arith)))
-  read-no-count NoMemory h = tt
+  read-no-count NoMemory h = short
 
   module _ {n : ℕ} {r1 : List (List ℕ)} (counted : NextCount 1 (cut bytes) r1 (Ok n)) where
     pub read-other-count : (n ≡ 1 → ⊥) → Read bytes (Err (Malformed 1 0))
@@ -54,17 +54,17 @@ module _ (bytes : List ℕ) (short : length bytes ≤ 16384) where
     pub read-no-longest : n ≡ 1 → (e : Fault) → NextEntry {X = Longest} (λ p. longest-words (p .slots)) (λ p. []) 1 1 r1 [] (Err e) → Read bytes (Err e)
     read-no-longest one (Malformed s l) (p, q, lacks) =
         stopped 1 1 s l p q (stops-at-longest (cut bytes) r1 (counted .1 ∙ ap (λ k. decimal k ∷ r1) one) (λ k small same. lacks (record { slots = k }) ((small, tt), tt) same))
-    read-no-longest one NoMemory h = tt
+    read-no-longest one NoMemory h = short
 
     module _ (one : n ≡ 1) (x : Longest) {r2 : List (List ℕ)} (longest : NextEntry {X = Longest} (λ p. longest-words (p .slots)) (λ p. []) 1 1 r1 r2 (Ok x)) where
       pub read-no-channels : (e : Fault) → Sectioned channel-words channel-mats 2 r2 [] (Err e) → Read bytes (Err e)
       read-no-channels (Malformed s l) (same, broken) =
           stopped 2 l s l same refl
           (stops-in-channels (cut bytes) (x .slots) (longest .0 .0 .0) r2 l (longest-read n (line (longest-words (x .slots))) (cut bytes) r1 r2 (counted .1) one (longest .1)) (breaks channel-words channel-mats silent silent-fits r2 l broken))
-      read-no-channels NoMemory h = tt
+      read-no-channels NoMemory h = short
 
       pub read-no-calls : (cs : Vec Channel Global) (r3 : List (List ℕ)) → Sectioned channel-words channel-mats 2 r2 r3 (Ok cs) → (e : Fault) → Sectioned call-words call-mats 3 r3 [] (Err e) → Read bytes (Err e)
       read-no-calls cs r3 (fit, split) (Malformed s l) (same, broken) =
           stopped 3 l s l same refl
           (stops-in-calls (cut bytes) (x .slots) (longest .0 .0 .0) (vec-items cs) fit r3 l (channels-read n (line (longest-words (x .slots))) (cut bytes) r1 r2 (section channel-words (vec-items cs)) r3 (counted .1) one (longest .1) split) (breaks call-words call-mats (Bulk 0) ((omega arith, tt), tt) r3 l broken))
-      read-no-calls cs r3 (fit, split) NoMemory h = tt
+      read-no-calls cs r3 (fit, split) NoMemory h = short

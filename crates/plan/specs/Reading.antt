@@ -30,7 +30,7 @@ pub record StopsAt (ls : List (List ℕ)) (at : ℕ × ℕ) : Type 0 where
 abbrev pub Read : List ℕ → Result Plan Fault → Type 0
 Read bytes (Ok p) = (length bytes ≤ 16384) × InRange (script p) × (cut bytes ≡ lines (script p))
 Read bytes (Err (Malformed sec num)) = ((16384 < length bytes) × (sec ≡ 0) × (num ≡ 0)) ⊎ ((length bytes ≤ 16384) × StopsAt (cut bytes) (sec, num))
-Read bytes (Err NoMemory) = Unit {0}
+Read bytes (Err NoMemory) = length bytes ≤ 16384
 
 -- The text is that of the plan, but for a last byte 10.
 abbrev pub Spells : List ℕ → Script → Type 0
