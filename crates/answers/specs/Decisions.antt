@@ -37,9 +37,9 @@ abbrev pub has : ℕ → List ℕ → Bool
 has mat [] = false
 has mat (m ∷ ms) = eqb m mat || has mat ms
 
--- the refusals that come before any judging, the smallest number first: mat 0 or a limit; the mat has a channel; no row is free
-abbrev pub early : ℕ → List ℕ → Channel → Option Decision
-early p mats c = cond (eqb (c .mat) 0 || not (kind-limits (c .kind) p)) (Some BadChannel) (cond (has (c .mat) mats) (Some MatTaken) (cond (leb 32 (length mats)) (Some NoRow) None))
+-- the refusals that come before any judging, the smallest number first: mat 0 or a limit; the mat has a channel; all 32 rows are taken
+abbrev pub early : ℕ → List ℕ → ℕ → Channel → Option Decision
+early p mats taken c = cond (eqb (c .mat) 0 || not (kind-limits (c .kind) p)) (Some BadChannel) (cond (has (c .mat) mats) (Some MatTaken) (cond (leb 32 taken) (Some NoRow) None))
 
 -- what a verdict means for a channel
 abbrev pub by-verdict : Verdict → Decision
@@ -51,10 +51,10 @@ by-verdict (verdict.Late point count) = Late point count
 -- the decision on a channel of this kind, judged with those of the kinds granted before unless refused earlier
 abbrev pub Judges : ℕ → List (Mixture Spaced Bucket) → Mixture Spaced Bucket → Option Decision → Decision → Type 0
 Judges p kinds k (Some refused) d = d ≡ refused
-Judges p kinds k None d = (v : Verdict) × Judged kind-numbers kind-limits p (kinds ++ k ∷ []) v × (d ≡ by-verdict v)
+Judges p kinds k None d = (v : Verdict) × Judged kind-numbers kind-limits p (length kinds) (kinds ++ k ∷ []) v × (d ≡ by-verdict v)
 
 abbrev pub Decided : ℕ → List ℕ → List (Mixture Spaced Bucket) → Channel → Decision → Type 0
-Decided p mats kinds c d = Judges p kinds (c .kind) (early p mats c) d
+Decided p mats kinds c d = Judges p kinds (c .kind) (early p mats (length kinds) c) d
 
 -- a granted channel is counted from then on
 abbrev pub counted : {X : Type 0} → Decision → X → List X → List X

@@ -1,25 +1,31 @@
 // Whether each channel of a plan is granted, in turn.
 ghost use mathlib.Core.Path.{_≡_};
 ghost use mathlib.Core.List.{[], _∷_, _++_};
-ghost use Rattle.std.specs.Of.Vec.{vec-items};
+ghost use Rattle.std.specs.Of.Vec.{vec-items, vec-len};
 ghost use Rattle.std.specs.Vec.{made};
 ghost use Rattle.answers.specs.Answers.{Extended};
 ghost use Rattle.answers.specs.Decisions.{early, has, by-verdict, Decided, counted, answer-line, Decisions};
+ghost use Rattle.answers.specs.Granted.{mats, kinds, listed, least-line, LeastTold};
 ghost use Rattle.answers.specs.Lines.{told};
-
 use crate::lines::Answer;
 use crate::lines::Line;
+use admission::judge;
+use admission::least;
 use plan::Channel;
 use plan::Kind;
 use std::alloc::AllocError;
 use std::alloc::Global;
 use traffic::Curve;
+use traffic::Row;
 use traffic::bucket::BucketCurve;
+use traffic::bucket::BucketTraffic;
 use traffic::mixture::Mixture;
 use traffic::mixture::MixtureCurve;
+use traffic::mixture::MixtureTraffic;
 use traffic::spaced::SpacedCurve;
+use traffic::spaced::SpacedTraffic;
 use verdict::Verdict;
-use verdict::judge;
+use verdict::channels::Channels;
 
 // What becomes of a channel.
 #[derive(Clone, Copy)]
@@ -40,7 +46,7 @@ pub enum Decision {
 
 impl Decision {
     // What a verdict means for a channel.
-    fn of(verdict: Verdict) -> Decision
+    pub(crate) fn of(verdict: Verdict) -> Decision
         ensures { λ r. ⌜ r ≡ by-verdict verdict ⌝ }
     {
         match verdict {
@@ -72,24 +78,105 @@ impl Decision {
     }
 }
 
-// The channels granted so far.
+// All rows count: a row is filled only by a grant.
+const COUNTED: [bool; 32] = [true; 32];
+
+// The channels granted so far, in the order of their grants.
 #[derive(Drop)]
-struct Granted {
+pub struct Granted {
     mats: Vec<u8>,
-    kinds: Vec<Kind>,
+    rows: Vec<Row<Kind, ()>>,
 }
 
 impl Granted {
+    // None yet.
+    pub fn new(heap: Global) -> Granted
+        ensures mats { λ r. ⌜ mats r ≡ [] ⌝ }
+        ensures kinds { λ r. ⌜ kinds r ≡ [] ⌝ }
+    {
+        Granted {
+            mats: Vec::new(heap),
+            rows: Vec::new(heap),
+        }
+    }
+
     // A granted channel is counted from then on.
-    fn count(&mut self, channel: &Channel, decision: Decision) -> Result<(), AllocError>
-        ensures mats { λ r. ⌜ made r (λ _. vec-items (now (self .exit) .mats) ≡ counted decision (now (channel .entry) .mat) (vec-items (now (self .entry) .mats))) ⌝ }
-        ensures kinds { λ r. ⌜ made r (λ _. vec-items (now (self .exit) .kinds) ≡ counted decision (now (channel .entry) .kind) (vec-items (now (self .entry) .kinds))) ⌝ }
+    pub fn count(&mut self, channel: &Channel, decision: Decision) -> Result<(), AllocError>
+        ensures mats { λ r. ⌜ made r (λ _. mats (now (self .exit)) ≡ counted decision (now (channel .entry) .mat) (mats (now (self .entry)))) ⌝ }
+        ensures kinds { λ r. ⌜ made r (λ _. kinds (now (self .exit)) ≡ counted decision (now (channel .entry) .kind) (kinds (now (self .entry)))) ⌝ }
     {
         if let Decision::Granted { .. } = decision {
             self.mats.push(channel.mat)?;
-            self.kinds.push(channel.kind)?;
+            self.rows
+                .push(Row {
+                    kind: channel.kind,
+                    state: (),
+                })?;
         }
         Ok(())
+    }
+
+    // The refusal that comes before any judging: the smallest number that applies.
+    fn refused_early(&self, longest: u32, channel: &Channel) -> Option<Decision>
+        ensures { λ r. ⌜ r ≡ early longest (mats (now (self .entry))) (vec-len (now (self .entry) .rows)) (now (channel .entry)) ⌝ }
+    {
+        if channel.mat == 0 || !channel.kind.within(longest) {
+            return Some(Decision::BadChannel);
+        }
+        if has_mat(&self.mats, channel.mat) {
+            return Some(Decision::MatTaken);
+        }
+        if self.rows.len() >= 32 {
+            return Some(Decision::NoRow);
+        }
+        None
+    }
+
+    // What becomes of a channel, given those granted so far.
+    pub fn decide(&self, longest: u32, channel: &Channel) -> Decision
+        ensures { λ r. ⌜ Decided longest (mats (now (self .entry))) (kinds (now (self .entry))) (now (channel .entry)) r ⌝ }
+    {
+        if let Some(refused) = self.refused_early(longest, channel) {
+            return refused;
+        }
+        let together = Channels {
+            rows: &self.rows,
+            counted: &COUNTED,
+            more: Some(channel.kind),
+        };
+        Decision::of(judge(&together, longest))
+    }
+
+    // The least allowance with which a channel would pass beside those granted so far; its own is not looked at.
+    pub fn least(&self, longest: u32, channel: &Channel) -> Line
+        ensures { λ r. ⌜ LeastTold longest (vec-len (now (self .entry) .rows)) (listed (now (self .entry))) (now (channel .entry)) r ⌝ }
+    {
+        let rows = Channels {
+            rows: &self.rows,
+            counted: &COUNTED,
+            more: None,
+        };
+        least_line(channel.mat, least(&rows, channel.kind, longest))
+    }
+}
+
+// The line for what the search for the least allowance answers; mat 0 is refused first.
+fn least_line(mat: u8, found: Result<(u32, u32), Verdict>) -> Line
+    ensures { λ r. ⌜ r ≡ least-line mat found ⌝ }
+{
+    let (number, allowance, point) = match found {
+        _ if mat == 0 => (2, 0, 0),
+        Ok((allowance, point)) => (0, allowance, point),
+        Err(Verdict::Granted { .. }) => (2, 0, 0),
+        Err(Verdict::OutsideLimits) => (2, 0, 0),
+        Err(Verdict::Overloaded) => (5, 0, 0),
+        Err(Verdict::Late { point, .. }) => (6, 0, point),
+    };
+    Line::Least {
+        mat,
+        number,
+        allowance,
+        point,
     }
 }
 
@@ -105,34 +192,6 @@ fn has_mat(mats: &[u8], mat: u8) -> bool
     false
 }
 
-// The refusal that comes before any judging: the smallest number that applies.
-fn refused_early(mats: &[u8], longest: u32, channel: &Channel) -> Option<Decision>
-    ensures { λ r. ⌜ r ≡ early longest (now (mats .entry)) (now (channel .entry)) ⌝ }
-{
-    if channel.mat == 0 || !channel.kind.within(longest) {
-        return Some(Decision::BadChannel);
-    }
-    if has_mat(mats, channel.mat) {
-        return Some(Decision::MatTaken);
-    }
-    if mats.len() >= 32 {
-        return Some(Decision::NoRow);
-    }
-    None
-}
-
-// What becomes of a channel, given those granted so far.
-fn decide(heap: Global, granted: &Granted, longest: u32, channel: &Channel) -> Result<Decision, AllocError>
-    ensures { λ r. ⌜ made r (Decided longest (vec-items (now (granted .entry) .mats)) (vec-items (now (granted .entry) .kinds)) (now (channel .entry))) ⌝ }
-{
-    if let Some(refused) = refused_early(&granted.mats, longest, channel) {
-        return Ok(refused);
-    }
-    let mut together = Vec::from_slice(heap, &granted.kinds)?;
-    together.push(channel.kind)?;
-    Ok(Decision::of(judge(&together, longest)))
-}
-
 // The line that a channel prints.
 fn line(channel: &Channel, decision: Decision) -> Line
     ensures { λ r. ⌜ r ≡ answer-line (now (channel .entry)) decision ⌝ }
@@ -145,15 +204,17 @@ fn line(channel: &Channel, decision: Decision) -> Line
 }
 
 // A line more for each channel.
-pub(crate) fn decide_all(heap: Global, longest: u32, channels: &[Channel], mut lines: Vec<Line>) -> Result<Vec<Line>, AllocError>
+pub(crate) fn decide_all(
+    heap: Global,
+    longest: u32,
+    channels: &[Channel],
+    mut lines: Vec<Line>,
+) -> Result<Vec<Line>, AllocError>
     ensures { λ r. ⌜ made r (λ all. Extended longest (now (channels .entry)) (vec-items lines) (vec-items all)) ⌝ }
 {
-    let mut granted = Granted {
-        mats: Vec::new(heap),
-        kinds: Vec::new(heap),
-    };
+    let mut granted = Granted::new(heap);
     for channel in channels {
-        let decision = decide(heap, &granted, longest, channel)?;
+        let decision = granted.decide(longest, channel);
         lines.push(line(channel, decision))?;
         granted.count(channel, decision)?;
     }

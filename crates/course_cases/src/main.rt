@@ -13,9 +13,11 @@ const AT_ONCE: &[u8] = b"1\nP 2\n1\nS 1 1 1 1\n0\n";
 // A slot later it is granted, and then the air is full.
 const FULL: &[u8] = b"1\nP 2\n2\nS 1 1 1 2\nS 2 5040 1 1\n0\n";
 // Mat 0, a period that does not divide the frame, an allowance above and at its limit, a mat asked for twice.
-const LIMITS: &[u8] = b"1\nP 4\n5\nS 0 10 2 5\nS 1 11 2 5\nS 1 10 2 40321\nS 1 10 2 40320\nB 1 10 2 3 9\n0\n";
+const LIMITS: &[u8] =
+    b"1\nP 4\n5\nS 0 10 2 5\nS 1 11 2 5\nS 1 10 2 40321\nS 1 10 2 40320\nB 1 10 2 3 9\n0\n";
 // A link that opens shut; a malformed plan for such a link.
 const SHUT: &[u8] = b"1\nP 256\n1\nS 1 10 2 5\n0\n";
+
 const SHUT_MALFORMED: &[u8] = b"1\nP 0\n0\n1\n";
 
 fn show(rt: &LibcRuntime, text: &[u8]) -> io::Result<()> {

@@ -83,3 +83,10 @@ pub trait Traffic: Curve {
         requires { ⌜ Within (Self·Curve .limits (now self)) ⌝ }
         ensures { λ r. ⌜ Stepped (steps (now (self .entry)) .step (now (state .entry)) slot length) (now (state .entry)) (now (state .exit)) r ⌝ };
 }
+
+// A row of the memory that a link's owner lends: a channel's declared numbers and its state.
+#[derive(Clone, Copy)]
+pub struct Row<K, S> {
+    pub kind: K,
+    pub state: S,
+}

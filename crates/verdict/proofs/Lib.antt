@@ -1,4 +1,10 @@
+pub mod Counts
 pub mod Exactness
 pub mod FinitePoints
-pub mod Rows
-pub mod Walks
+pub mod Halving
+pub mod Lengthening
+pub mod Places
+pub mod Rowwise
+pub mod Sweeping
+pub mod Swept
+pub mod Totals

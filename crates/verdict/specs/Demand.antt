@@ -17,6 +17,10 @@ largest f (k ∷ ks) = max (f k) (largest f ks)
 abbrev pub works : {K : Type 0} → (K → Numbers) → List K → ℕ
 works m = total (λ k. m k .work)
 
+-- slots that they ask for at once
+abbrev pub bursts : {K : Type 0} → (K → Numbers) → List K → ℕ
+bursts m = total (λ k. m k .burst)
+
 -- the sum of the curves at t: the most that can be offered from some slot a on and be due by a + t
 abbrev pub curves : {K : Type 0} → (K → Numbers) → List K → ℕ → ℕ
 curves m ks t = total (λ k. m k .curve t) ks

@@ -1,10 +1,11 @@
 -- The points of a demand function F: the places where it rises, and whether the air can carry them.
 use mathlib.Core.Path.{_≡_}
-use mathlib.Core.Bool.{cond}
+use mathlib.Core.Bool.{Bool, cond, _&&_, _||_}
 use mathlib.Core.Logic.{_⊎_}
 use Prim.Native.Nat.{ℕ, zero, suc, _+_, _≤_, _<_}
-use lib.Dec.{ltb}
+use lib.Dec.{ltb, eqb}
 use Rattle.traffic.specs.Curves.{before, Rises}
+use Rattle.verdict.specs.declared.points.Point.{Point}
 
 -- the demand at t fits under the blocking term β, where there is any
 abbrev pub Fits : (ℕ → ℕ) → (ℕ → ℕ) → ℕ → Type 0
@@ -31,3 +32,7 @@ pub record FirstFailing (β F : ℕ → ℕ) (h point count : ℕ) : Type 0 wher
 -- what a walk over the points answers: the first that fails, or 0 where all fit, and the count
 abbrev pub Walked : (β F : ℕ → ℕ) → ℕ → ℕ → ℕ → Type 0
 Walked β F h point count = ((point ≡ 0) × AllFit β F h count) ⊎ ((0 < point) × FirstFailing β F h point count)
+
+-- points are taken by t, and then by row
+abbrev pub point-before : Point → Point → Bool
+point-before x y = ltb (x .t) (y .t) || (eqb (x .t) (y .t) && ltb (x .row) (y .row))

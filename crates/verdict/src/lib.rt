@@ -1,24 +1,26 @@
 // The verdict: whether the air can carry a set of channels, by their curves alone.
 ghost use mathlib.Core.Path.{_≡_};
 ghost use mathlib.Core.Bool.{Bool, true, false};
-ghost use Prim.Native.Nat.{ℕ, _+_, _-_, _*_, _<_, _≤_};
-ghost use lib.ListN.{length};
-ghost use Rattle.std.specs.Orderings.{Decides};
-ghost use Rattle.verdict.specs.Demand.{works, curves, horizon, blocking};
-ghost use Rattle.verdict.specs.Judged.{Judgeable, Judged, Exact};
-ghost use Rattle.verdict.specs.Points.{Walked};
+ghost use Prim.Native.Nat.{ℕ, _≤_};
+ghost use Rattle.verdict.specs.Judged.{Judged, Exact};
+ghost use Rattle.verdict.specs.Members.{members, size};
+ghost use Rattle.verdict.specs.Stretches.{Stretched};
 
+pub mod channels;
+mod least;
+mod points;
+mod sums;
+mod walk;
+
+use channels::Channels;
 use traffic::Curve;
 use traffic::FRAME;
-
-// A link has up to 32 rows, and one channel more is judged with them.
-pub const MOST_CHANNELS: usize = 33;
 
 #[derive(Clone, Copy)]
 pub enum Verdict {
     // Every point fits; so many were taken.
     Granted { count: u32 },
-    // The longest packet is not 1 to 255, there are more than 33 channels, or one is outside its limits: nothing is judged.
+    // The longest packet is not 1 to 255, there are more than 32 rows, or a channel is outside its limits: nothing is judged.
     OutsideLimits,
     // The channels ask for more than a frame in each frame.
     Overloaded,
@@ -26,88 +28,39 @@ pub enum Verdict {
     Late { point: u32, count: u32 },
 }
 
-// Whether the channels may stand together on a link whose longest packet has `longest` slots.
-pub fn judge<K: Curve>(channels: &[K], longest: u32) -> Verdict
-    ensures judged { λ r. ⌜ Judged (K·Curve .numbers) (K·Curve .limits) longest (now (channels .entry)) r ⌝ }
-    ensures exact { λ r. ⌜ Exact (K·Curve .numbers) (K·Curve .limits) longest (now (channels .entry)) r ⌝ }
-{
-    if !judgeable(channels, longest) {
-        return Verdict::OutsideLimits;
+impl<'a, K: Curve, S: Copy> Channels<'a, K, S> {
+    // Whether the channels may stand together on a link whose longest packet has `longest` slots.
+    pub fn judge(&self, longest: u32) -> Verdict
+        ensures judged { λ r. ⌜ Judged (K·Curve .numbers) (K·Curve .limits) longest (size (now (self .entry))) (members (now (self .entry))) r ⌝ }
+        ensures exact { λ r. ⌜ Exact (K·Curve .numbers) (K·Curve .limits) longest (size (now (self .entry))) (members (now (self .entry))) r ⌝ }
+    {
+        if !self.judgeable(longest) {
+            return Verdict::OutsideLimits;
+        }
+        let (works, _) = self.loads(longest);
+        if works > FRAME {
+            return Verdict::Overloaded;
+        }
+        let end = self.end_of_points(longest);
+        match self.walk(longest, end) {
+            (0, count) => Verdict::Granted { count },
+            (point, count) => Verdict::Late { point, count },
+        }
     }
-    if total_work(channels, longest) > FRAME {
-        return Verdict::Overloaded;
-    }
-    let end = end_of_points(channels, longest);
-    match walk(channels, longest, end) {
-        (0, count) => Verdict::Granted { count },
-        (point, count) => Verdict::Late { point, count },
-    }
-}
 
-fn judgeable<K: Curve>(channels: &[K], longest: u32) -> bool
-    ensures { λ r. ⌜ Decides r (Judgeable (K·Curve .limits) longest (now (channels .entry))) ⌝ }
-{
-    if longest < 1 || longest > 255 || channels.len() > MOST_CHANNELS {
-        return false;
-    }
-    for k in channels {
-        if !k.within(longest) {
-            return false;
+    // The longest run of slots without a quiet one, by the straight line: refused where the works fill the frame.
+    pub fn stretch(&self, longest: u32) -> Result<u64, Verdict>
+        ensures { λ r. ⌜ Stretched (K·Curve .numbers) (K·Curve .limits) longest (size (now (self .entry))) (members (now (self .entry))) r ⌝ }
+    {
+        if !self.judgeable(longest) {
+            return Err(Verdict::OutsideLimits);
         }
-    }
-    true
-}
-
-fn total_work<K: Curve>(channels: &[K], longest: u32) -> u32
-    requires { ⌜ Judgeable (K·Curve .limits) longest (now channels) ⌝ }
-    ensures { λ r. ⌜ r ≡ works (K·Curve .numbers) (now (channels .entry)) ⌝ }
-{
-    let mut sum = 0;
-    for k in channels {
-        sum += k.work();
-    }
-    sum
-}
-
-// The largest allowance and a frame: all points that need a look lie below.
-fn end_of_points<K: Curve>(channels: &[K], longest: u32) -> u32
-    requires { ⌜ Judgeable (K·Curve .limits) longest (now channels) ⌝ }
-    ensures { λ r. ⌜ (r ≡ horizon (K·Curve .numbers) (now (channels .entry))) × (r ≤ 45360) ⌝ }
-{
-    let mut most = 0;
-    for k in channels {
-        let allowance = k.allowance();
-        if most < allowance {
-            most = allowance;
+        let (works, bursts) = self.loads(longest);
+        if works >= FRAME {
+            return Err(Verdict::Overloaded);
         }
-    }
-    most + FRAME
-}
-
-// The first failing point below the end and how many points there are up to it; or 0 and how many there are in all.
-fn walk<K: Curve>(channels: &[K], longest: u32, end: u32) -> (u32, u32)
-    requires judged { ⌜ Judgeable (K·Curve .limits) longest (now channels) ⌝ }
-    requires near { ⌜ end ≤ 45360 ⌝ }
-    ensures { λ r. ⌜ Walked (blocking longest) (curves (K·Curve .numbers) (now (channels .entry))) end (r .0) (r .1) ⌝ }
-{
-    let mut t = 0;
-    let mut last = 0;
-    let mut count = 0;
-    'points: loop {
-        if t == end {
-            break 'points (0, count);
-        }
-        let mut sum = 0;
-        'rows: for k in channels {
-            sum += k.curve(t);
-        }
-        if last < sum {
-            count += 1;
-            if u64::from(t) < sum + u64::from(longest - 1) {
-                break 'points (t, count);
-            }
-        }
-        last = sum;
-        t += 1;
+        let slots = u64::from(FRAME) * (u64::from(longest - 1) + u64::from(bursts));
+        let spare = u64::from(FRAME - works);
+        Ok((slots + (spare - 1)) / spare)
     }
 }
