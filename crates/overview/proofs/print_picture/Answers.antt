@@ -5,4 +5,4 @@ use Rattle.overview.proofs.print_picture.Goals as goal
 
 pub print-table-requires : goal.print-table-requires
 print-table-requires c =
-    subst (λ rs. Stands kind_numbers kind_limits c.args.plan.now.longest (kinds rs)) (sym c.deref-2.ensures.value) c.in-ok-rows.ensures
+    subst (λ rs. Stands kind_numbers kind_limits c.args.plan.now.longest (kinds rs)) (sym c.deref-2.ensures.value) c.in_ok-rows.ensures

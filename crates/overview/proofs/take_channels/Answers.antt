@@ -3,12 +3,12 @@ use Rattle.plan.specs.Kinds.{kind_numbers, kind_limits}
 use Rattle.overview.specs.Standing.{kinds, Stands}
 use Rattle.overview.proofs.Joining.{none_stand, room, seated}
 use Rattle.overview.proofs.take_channels.Goals as goal
-use Rattle.overview.proofs.take_channels.Goals.{in-Some+in-ok-println, in-default+in-ok-push+in-ok-print-channel}
+use Rattle.overview.proofs.take_channels.Goals.{in-Some+in_ok-println, in_default+in_ok-push+in_ok-print-channel}
 
 pub bounds-len : goal.bounds-len
 bounds-len c =
     let rows = c.loop-channel.rows in
-    omega (arith, c.len.ensures, rows.ok.0, ap length c.deref.ensures.value, room kind_numbers kind_limits _ c.deref.result.now _ c.in-default.ensures)
+    omega (arith, c.len.ensures, rows.ok.0, ap length c.deref.ensures.value, room kind_numbers kind_limits _ c.deref.result.now _ c.in_default.ensures)
 
 pub loop-channel-init : goal.loop-channel-init
 loop-channel-init c =
@@ -18,7 +18,7 @@ pub loop-channel-preserved : goal.loop-channel-preserved
 loop-channel-preserved c =
     let p = c.args.longest in
     elim c.match-why-refused.branch [
-      | in-Some+in-ok-println w ↦ subst (λ rows. Stands kind_numbers kind_limits p (kinds (vec_items rows))) (sym w.rows-is) c.loop-channel.invariant
-      | in-default+in-ok-push+in-ok-print-channel w ↦
-          seated kind_numbers kind_limits p _ _ _ _ _ c.deref.ensures.value (ap vec_items w.rows-is ∙ w.in-ok-push.ensures.items) refl w.in-default.ensures
+      | in-Some+in_ok-println w ↦ subst (λ rows. Stands kind_numbers kind_limits p (kinds (vec_items rows))) (sym w.rows-is) c.loop-channel.invariant
+      | in_default+in_ok-push+in_ok-print-channel w ↦
+          seated kind_numbers kind_limits p _ _ _ _ _ c.deref.ensures.value (ap vec_items w.rows-is ∙ w.in_ok-push.ensures.items) refl w.in_default.ensures
     ]

@@ -6,8 +6,8 @@ loop-channel-init c = deciding_none _ _ _ _ c.new-granted.ensures.mats c.new-gra
 
 pub loop-channel-preserved : goal.loop-channel-preserved
 loop-channel-preserved c =
-    let counted = c.in-ok-count.ensures in
-    deciding_more _ _ c.args.channels.now c.loop-channel.channel-index _ _ _ _ _ _ _ _ _ c.loop-channel-test.true c.loop-channel.invariant c.decide-decision.ensures counted.mats counted.kinds c.in-ok-push.ensures.items c.line.ensures
+    let counted = c.in_ok-count.ensures in
+    deciding_more _ _ c.args.channels.now c.loop-channel.channel-index _ _ _ _ _ _ _ _ _ c.loop-channel-test.true c.loop-channel.invariant c.decide-decision.ensures counted.mats counted.kinds c.in_ok-push.ensures.items c.line.ensures
 
 pub returns : goal.returns
 returns c = deciding_all _ _ _ _ _ _ _ c.loop-channel-test.false c.loop-channel.invariant

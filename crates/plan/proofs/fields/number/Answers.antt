@@ -9,8 +9,8 @@ use Rattle.plan.proofs.fields.number.Goals as goal
 pub returns-then-padded : goal.returns-then-padded
 returns-then-padded c n small e = unpadded_decimal n c.args.field.now small e (c.padded.ensures.0 c.if-padded.true)
 
-pub returns-in-default : goal.returns-in-default
-returns-in-default c n small e = c.in-default.ensures.cases.0 (utf8_decimal n c.args.field.now small e)
+pub returns-in_default : goal.returns-in_default
+returns-in_default c n small e = c.in_default.ensures.cases.0 (utf8_decimal n c.args.field.now small e)
 
 pub returns : goal.returns
 returns c =

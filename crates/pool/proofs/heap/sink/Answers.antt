@@ -8,8 +8,8 @@ pub loop-i-preserved : goal.loop-i-preserved
 loop-i-preserved g c =
     let xs = c.loop-i.s in
     let i = c.loop-i.i in
-    let child = c.first-child-child.result in
-    let told = c.first-child-child.ensures in
+    let child = c.first_child-child.result in
+    let told = c.first_child-child.ensures in
     let law = g.met.T.Ordered in
     let before = g.T.Ordered.before in
     let less : before c.index-s-child.result c.index-s-i.result ≡ true = cc in (
@@ -25,8 +25,8 @@ pub returns-then-not-precedes : goal.returns-then-not-precedes
 returns-then-not-precedes g c =
     let xs = c.loop-i.s in
     let i = c.loop-i.i in
-    let child = c.first-child-child.result in
-    let told = c.first-child-child.ensures in
+    let child = c.first_child-child.result in
+    let told = c.first_child-child.ensures in
     let law = g.met.T.Ordered in
     let before = g.T.Ordered.before in
     let fine : before c.index-s-child.result c.index-s-i.result ≡ false = cc in

@@ -8,15 +8,15 @@ use Rattle.whole_answers.proofs.asks.ask.Goals as goal
 
 pub returns-then-shut : goal.returns-then-shut
 returns-then-shut c =
-    told_shut (script c.args.plan.now) (model c.open-link.result) (vec_items c.in-ok-lines.lines) c.open-link.ensures.said
-    (sym c.shut.ensures ∙ c.if-shut.true) c.in-ok-lines.ensures
+    told_shut (script c.args.plan.now) (model c.open-link.result) (vec_items c.in_ok-lines.lines) c.open-link.ensures.said
+    (sym c.shut.ensures ∙ c.if-shut.true) c.in_ok-lines.ensures
 
 pub returns : goal.returns
 returns c =
     let start = model c.open-link.result in
-    let first = vec_items c.in-ok-lines.lines in
+    let first = vec_items c.in_ok-lines.lines in
     let n = model c.ask-all.new.link in
     let ls = vec_items c.ask-all.new.lines in
     told_all (script c.args.plan.now) start ls c.open-link.ensures.said first n
-    (sym c.shut.ensures ∙ c.if-shut.false) c.in-ok-lines.ensures
-    (subst (λ (xs : List Channel). Asking xs start first n ls) c.deref.ensures.value c.in-ok-ask-all.ensures)
+    (sym c.shut.ensures ∙ c.if-shut.false) c.in_ok-lines.ensures
+    (subst (λ (xs : List Channel). Asking xs start first n ls) c.deref.ensures.value c.in_ok-ask-all.ensures)

@@ -12,7 +12,7 @@ returns c =
     let ls = vec_items c.args.lines.now in
     let n = model c.match-call.link in
     let ks = vec_items c.push.new.self in
-    let pushed = c.in-ok-push.ensures.items in
+    let pushed = c.in_ok-push.ensures.items in
     elim c.match-call.branch [
       | in-Offer w ↦
           part_as m ls n ks c.args.call (Offer w.in-Offer.mat w.in-Offer.bytes) (model w.offer.new.self) w.in-Offer.is (ap model w.link-is)

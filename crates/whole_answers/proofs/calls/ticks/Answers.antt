@@ -14,7 +14,7 @@ returns-then-not-passed c =
     let o = model c.tick.new.link in
     let js = vec_items c.tick.new.lines in
     pass_stopped (model c.args.link.now) (vec_items c.args.lines.now) c.loop.counter c.args.count n o ks js c.loop-test.true c.loop.invariant
-    (subst (λ (b : Bool). Slot b n ks o js) c.if-not-passed.true c.in-ok-passed.ensures)
+    (subst (λ (b : Bool). Slot b n ks o js) c.if-not-passed.true c.in_ok-passed.ensures)
 
 pub loop-preserved : goal.loop-preserved
 loop-preserved c =
@@ -23,7 +23,7 @@ loop-preserved c =
     let o = model c.tick.new.link in
     let js = vec_items c.tick.new.lines in
     pass_more (model c.args.link.now) (vec_items c.args.lines.now) c.loop.counter n o ks js c.loop.invariant
-    (subst (λ (b : Bool). Slot b n ks o js) c.if-not-passed.false c.in-ok-passed.ensures)
+    (subst (λ (b : Bool). Slot b n ks o js) c.if-not-passed.false c.in_ok-passed.ensures)
 
 pub returns : goal.returns
 returns c =

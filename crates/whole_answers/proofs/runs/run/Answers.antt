@@ -10,18 +10,18 @@ use Rattle.whole_answers.proofs.runs.run.Goals as goal
 
 pub returns-then-shut : goal.returns-then-shut
 returns-then-shut c =
-    ran_shut (script c.args.plan.now) (model c.open-link.result) (vec_items c.in-ok-lines.lines) c.open-link.ensures.said (λ cs n h. (c.open-link.ensures.promise cs n h).on_time)
-    (sym c.shut.ensures ∙ c.if-shut.true) c.in-ok-lines.ensures
+    ran_shut (script c.args.plan.now) (model c.open-link.result) (vec_items c.in_ok-lines.lines) c.open-link.ensures.said (λ cs n h. (c.open-link.ensures.promise cs n h).on_time)
+    (sym c.shut.ensures ∙ c.if-shut.true) c.in_ok-lines.ensures
 
 pub returns : goal.returns
 returns c =
     let start = model c.open-link.result in
-    let first = vec_items c.in-ok-lines.lines in
+    let first = vec_items c.in_ok-lines.lines in
     let m = model c.join-all.new.link in
     let js = vec_items c.join-all.new.lines in
     let n = model c.run-all.new.link in
     let ls = vec_items c.run-all.new.lines in
     ran (script c.args.plan.now) start ls c.open-link.ensures.said (λ cs n h. (c.open-link.ensures.promise cs n h).on_time) first js m n
-    (sym c.shut.ensures ∙ c.if-shut.false) c.in-ok-lines.ensures
-    (subst (λ (xs : List Channel). Part (λ cs ds. InTurn Join cs xs ds) start first m js) c.deref.ensures.value c.in-ok-join-all.ensures)
-    (subst (λ (xs : List Call). Part (λ cs ds. InTurn Make cs xs ds) m js n ls) c.deref-2.ensures.value c.in-ok-run-all.ensures)
+    (sym c.shut.ensures ∙ c.if-shut.false) c.in_ok-lines.ensures
+    (subst (λ (xs : List Channel). Part (λ cs ds. InTurn Join cs xs ds) start first m js) c.deref.ensures.value c.in_ok-join-all.ensures)
+    (subst (λ (xs : List Call). Part (λ cs ds. InTurn Make cs xs ds) m js n ls) c.deref-2.ensures.value c.in_ok-run-all.ensures)

@@ -10,4 +10,4 @@ returns-in-Some c =
 pub returns : goal.returns
 returns c =
     let granted = c.args.self.now in
-    judged_decides c.args.longest (vec_items granted.mats) (vec_items granted.rows) _ c.args.channel.now _ c.judge.result _ granted.rows.ok.0 c.in-default.ensures c.deref.ensures.value c.judge.ensures.judged c.of.ensures
+    judged_decides c.args.longest (vec_items granted.mats) (vec_items granted.rows) _ c.args.channel.now _ c.judge.result _ granted.rows.ok.0 c.in_default.ensures c.deref.ensures.value c.judge.ensures.judged c.of.ensures

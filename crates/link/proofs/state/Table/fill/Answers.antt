@@ -3,8 +3,8 @@ use Rattle.link.specs.declared.state.Phase.TheVariants.{Held}
 use Rattle.link.proofs.Tables.{known_set}
 use Rattle.link.proofs.state.Table.fill.Goals as goal
 
-pub invariant-of-self : goal.invariant-of-self
-invariant-of-self c =
+pub invariant_of-self : goal.invariant_of-self
+invariant_of-self c =
     let rs = c.args.self.now.records in
     let held : c.meet.new.self.phase ≡ Held = search rules in (
       length-set rs c.args.i c.meet.new.self ∙ c.args.self.now.full,

@@ -3,8 +3,8 @@ use Rattle.link.specs.Rows.{changed, moved, none_leaving}
 use Rattle.link.proofs.Tables.{set_changed, known_moved}
 use Rattle.link.proofs.state.Table.meet.Goals as goal
 
-pub invariant-of-self : goal.invariant-of-self
-invariant-of-self c =
+pub invariant_of-self : goal.invariant_of-self
+invariant_of-self c =
     let rs = c.args.self.now.records in
     let i = c.args.i in
     let e = c.args.event in

@@ -3,8 +3,8 @@ use Rattle.link.specs.Rows.{none_leaving}
 use Rattle.link.proofs.Tables.{rest_none, rest_calm}
 use Rattle.link.proofs.state.Table.rest.Goals as goal
 
-pub invariant-of-self : goal.invariant-of-self
-invariant-of-self c = (
+pub invariant_of-self : goal.invariant_of-self
+invariant_of-self c = (
   c.meet-all.auto.records ∙ c.args.self.now.full,
   (ap none_leaving c.meet-all.ensures ∙ rest_calm c.args.self.now.records, tt),
 )

@@ -6,8 +6,8 @@ use Rattle.overview.proofs.rows.Granted.demand.Goals as goal
 pub curve-sum-requires : goal.curve-sum-requires
 curve-sum-requires g c = row_within _ _ _ _ c.requires _ _ c.loop-row-test.true c.row-item.is
 
-pub overflow-add-sum : goal.overflow-add-sum
-overflow-add-sum g c =
+pub overflow_add-sum : goal.overflow_add-sum
+overflow_add-sum g c =
     let rs = c.args.self.now.rows.now in
     let i = c.loop-row.row-index in
     omega (arith, c.loop-row.invariant, c.curve-sum.ensures, c.ranges.t, demand_more _ _ _ rs c.requires i _ c.loop-row-test.true c.row-item.is c.args.t, front_fits _ _ _ rs c.requires (i + 1) c.args.t)

@@ -2,24 +2,24 @@ use Rattle.std.proofs.Common.{arith, ltb-false, ltb-true}
 use Rattle.plan.proofs.Listed.{listed_one, listed_two}
 use Rattle.plan.proofs.entries.CallEntry.pick.Goals as goal
 
-pub returns-in-ok-mat : goal.returns-in-ok-mat
-returns-in-ok-mat c =
-    let m = c.in-ok-mat.ensures in
+pub returns-in_ok-mat : goal.returns-in_ok-mat
+returns-in_ok-mat c =
+    let m = c.in_ok-mat.ensures in
     let e = listed_two c.args.numbers.now (omega (arith, ltb-true, ltb-false)) in
-    (((omega arith, (omega (arith, c.type-inv.numbers 1), tt)), (omega arith, tt)), cc)
+    (((omega arith, (omega (arith, c.type_inv.numbers 1), tt)), (omega arith, tt)), cc)
 
 pub returns-in-K-len1 : goal.returns-in-K-len1
 returns-in-K-len1 c =
     let e = listed_one c.args.numbers.now (omega (arith, ltb-true, ltb-false)) in
-    (((omega (arith, c.type-inv.numbers 0), tt), tt), cc)
+    (((omega (arith, c.type_inv.numbers 0), tt), tt), cc)
 
 pub returns-in-T-len1 : goal.returns-in-T-len1
 returns-in-T-len1 c =
     let e = listed_one c.args.numbers.now (omega (arith, ltb-true, ltb-false)) in
-    (((omega (arith, c.type-inv.numbers 0), tt), tt), cc)
+    (((omega (arith, c.type_inv.numbers 0), tt), tt), cc)
 
-pub returns-in-ok-mat-2 : goal.returns-in-ok-mat-2
-returns-in-ok-mat-2 c =
-    let m = c.in-ok-mat-2.ensures in
+pub returns-in_ok-mat-2 : goal.returns-in_ok-mat-2
+returns-in_ok-mat-2 c =
+    let m = c.in_ok-mat-2.ensures in
     let e = listed_one c.args.numbers.now (omega (arith, ltb-true, ltb-false)) in
     (((omega arith, tt), (omega arith, tt)), cc)

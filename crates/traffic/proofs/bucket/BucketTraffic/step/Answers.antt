@@ -4,8 +4,8 @@ use Rattle.traffic.specs.Buckets.{limits_facts}
 use Rattle.traffic.specs.Staircase.{period_most}
 use Rattle.traffic.proofs.bucket.BucketTraffic.step.Goals as goal
 
-pub overflow-mul-self : goal.overflow-mul-self
-overflow-mul-self c =
+pub overflow_mul-self : goal.overflow_mul-self
+overflow_mul-self c =
     let k = c.args.self.now in
     let lim = limits_facts k.period k.longest k.depth k.allowance c.requires.under c.requires.holds in
     let few : k.depth - 1 ≤ 7 = omega (arith, lim.depth_most) in

@@ -11,20 +11,20 @@ pub returns-then-first-t : goal.returns-then-first-t
 returns-then-first-t g c =
     let laws = row_laws g.K.Curve.numbers g.K.Curve.limits g.met.K.Curve.shaped c.requires.judged in
     let up = row_up g.K.Curve.numbers c.args.longest (places c.args.self.now) laws in
-    let peeked = c.in-ok-first.ensures in
-    let p = c.in-ok-first.first in
+    let peeked = c.in_ok-first.ensures in
+    let p = c.in_ok-first.first in
     let h = first_pending _ _ p (sym peeked.next) c.requires.sweep in
     record {
       sound = c.requires.sound;
       advanced = advanced_none _ up _ _ p _ c.if-first-t.true h.not_before peeked.first.1 c.requires.sweep;
     }
 
-pub overflow-add-result : goal.overflow-add-result
-overflow-add-result g c =
+pub overflow_add-result : goal.overflow_add-result
+overflow_add-result g c =
     let laws = row_laws g.K.Curve.numbers g.K.Curve.limits g.met.K.Curve.shaped c.requires.judged in
     let os = places c.args.self.now in
     let most = row_most g.K.Curve.numbers c.args.longest os laws in
-    let h = first_pending _ _ c.in-ok-first.first (sym c.in-ok-first.ensures.next) c.requires.sweep in
+    let h = first_pending _ _ c.in_ok-first.first (sym c.in_ok-first.ensures.next) c.requires.sweep in
     let near : c.args.t < c.args.end = omega (arith, h.below) in
     let small = sum_most (row_curve g.K.Curve.numbers os) _ c.args.end (omega arith) (λ i v below. omega (arith, most i v)) c.requires.sweep in
     omega (arith, small, c.curve-at-level.ensures.bound, c.requires.judged.few, length-places c.args.self.now.rows.now c.args.self.now.counted.now c.args.self.now.more)
@@ -36,5 +36,5 @@ returns g c =
     let r = c.replace.ensures.replaced in
     record {
       sound = c.replace.ensures.sound;
-      advanced = advance_step _ up _ _ c.in-ok-first.first r.first r.rest _ _ c.point-after-next.result (sym c.in-ok-first.ensures.next) r.was r.taken r.put c.if-first-t.false c.point-after-next.ensures c.curve-at-level.ensures.value c.requires.sweep;
+      advanced = advance_step _ up _ _ c.in_ok-first.first r.first r.rest _ _ c.point-after-next.result (sym c.in_ok-first.ensures.next) r.was r.taken r.put c.if-first-t.false c.point-after-next.ensures c.curve-at-level.ensures.value c.requires.sweep;
     }

@@ -3,7 +3,7 @@ use Rattle.verdict.specs.Demand.{largest}
 use Rattle.verdict.specs.Members.{places}
 use Rattle.verdict.proofs.Totals.{largest_one, largest_none, present_all, place_limits, place_within}
 use Rattle.verdict.proofs.channels.Channels.end_of_points.Goals as goal
-use Rattle.verdict.proofs.channels.Channels.end_of_points.Goals.{in-Some+then-most-allowance, in-Some+else-most-allowance, in-default}
+use Rattle.verdict.proofs.channels.Channels.end_of_points.Goals.{in-Some+then-most-allowance, in-Some+else-most-allowance, in_default}
 
 pub allowance-allowance-requires : goal.allowance-allowance-requires
 allowance-allowance-requires g c = place_within _ _ _ (places c.args.self.now) c.requires _ _ c.in-Some.ensures
@@ -21,8 +21,8 @@ loop-i-preserved g c =
       | in-Some+else-most-allowance w ↦
           let more = largest_one (λ k. (m k).allowance) os _ inside _ w.in-Some.ensures in
           (omega (arith, more, w.most-is, w.if-most-allowance.false, w.allowance-allowance.ensures), omega (arith, w.most-is))
-      | in-default w ↦
-          let same = largest_none (λ k. (m k).allowance) os _ inside w.in-default.ensures in
+      | in_default w ↦
+          let same = largest_none (λ k. (m k).allowance) os _ inside w.in_default.ensures in
           (omega (arith, same, w.most-is), omega (arith, w.most-is))
     ]
 

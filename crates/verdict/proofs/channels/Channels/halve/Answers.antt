@@ -14,8 +14,8 @@ law g = record { shaped = g.met.K.Curve.shaped; redated = g.met.K.Curve.redated;
 pub longest-low-requires : goal.longest-low-requires
 longest-low-requires g c = new_within _ _ _ (law g) _ _ _ _ c.requires.judged
 
-pub overflow-sub-low : goal.overflow-sub-low
-overflow-sub-low g c = omega (arith, c.longest-low.ensures, longest_least _ _ _ (law g) _ _ _ _ c.requires.judged)
+pub overflow_sub-low : goal.overflow_sub-low
+overflow_sub-low g c = omega (arith, c.longest-low.ensures, longest_least _ _ _ (law g) _ _ _ _ c.requires.judged)
 
 pub loop-high-init : goal.loop-high-init
 loop-high-init g c =

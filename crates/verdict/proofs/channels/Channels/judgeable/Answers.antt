@@ -5,7 +5,7 @@ use Rattle.std.proofs.lemmas.Bool.{false≢true}
 use Rattle.verdict.specs.Members.{places}
 use Rattle.verdict.proofs.Totals.{one_more, none_more, present_all, place_limits}
 use Rattle.verdict.proofs.channels.Channels.judgeable.Goals as goal
-use Rattle.verdict.proofs.channels.Channels.judgeable.Goals.{in-Some+else-not-within, in-default}
+use Rattle.verdict.proofs.channels.Channels.judgeable.Goals.{in-Some+else-not-within, in_default}
 
 pub returns-then-not-within : goal.returns-then-not-within
 returns-then-not-within g c = (
@@ -20,7 +20,7 @@ loop-i-preserved g c =
     let inside : c.loop-i.i < length os = omega arith in
     elim c.match-at.branch [
       | in-Some+else-not-within w ↦ subst (All P) (sym (one_more os _ inside _ w.in-Some.ensures)) (All-push P _ _ c.loop-i.invariant (sym w.if-not-within.ensures))
-      | in-default w ↦ subst (All P) (sym (none_more os _ inside w.in-default.ensures)) c.loop-i.invariant
+      | in_default w ↦ subst (All P) (sym (none_more os _ inside w.in_default.ensures)) c.loop-i.invariant
     ]
 
 pub returns : goal.returns

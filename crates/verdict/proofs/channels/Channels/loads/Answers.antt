@@ -6,7 +6,7 @@ use Rattle.verdict.proofs.Places.{length-places}
 use Rattle.verdict.proofs.Totals.{total-one, total-none, present_all, place_limits, place_within}
 use Rattle.verdict.proofs.channels.Channels.loads.Given as given
 use Rattle.verdict.proofs.channels.Channels.loads.Goals as goal
-use Rattle.verdict.proofs.channels.Channels.loads.Goals.{in-Some, in-default}
+use Rattle.verdict.proofs.channels.Channels.loads.Goals.{in-Some, in_default}
 
 pub work-works-requires : goal.work-works-requires
 work-works-requires g c = place_within _ _ _ (places c.args.self.now) c.requires _ _ c.in-Some.ensures
@@ -14,13 +14,13 @@ work-works-requires g c = place_within _ _ _ (places c.args.self.now) c.requires
 pub burst-bursts-requires : goal.burst-bursts-requires
 burst-bursts-requires g c = place_within _ _ _ (places c.args.self.now) c.requires _ _ c.in-Some.ensures
 
-pub overflow-add-works : goal.overflow-add-works
-overflow-add-works g c =
+pub overflow_add-works : goal.overflow_add-works
+overflow_add-works g c =
     let laws = g.met.K.Curve.shaped _ _ c.requires.least c.requires.most (place_limits _ _ _ (places c.args.self.now) c.requires _ _ c.in-Some.ensures) in
     omega (arith, laws.work_most, c.requires.few, length-places c.args.self.now.rows.now c.args.self.now.counted.now c.args.self.now.more)
 
-pub overflow-add-bursts : goal.overflow-add-bursts
-overflow-add-bursts g c =
+pub overflow_add-bursts : goal.overflow_add-bursts
+overflow_add-bursts g c =
     let laws = g.met.K.Curve.shaped _ _ c.requires.least c.requires.most (place_limits _ _ _ (places c.args.self.now) c.requires _ _ c.in-Some.ensures) in
     omega (arith, laws.burst_most, c.requires.few, length-places c.args.self.now.rows.now c.args.self.now.counted.now c.args.self.now.more)
 
@@ -39,9 +39,9 @@ loop-i-preserved g c =
             omega (arith, more-burst, w.bursts-is, w.burst-bursts.ensures),
             omega (arith, laws.burst_most, w.bursts-is, w.burst-bursts.ensures),
           )
-      | in-default w ↦
-          let same-work = total-none (λ k. (m k).work) os _ inside w.in-default.ensures in
-          let same-burst = total-none (λ k. (m k).burst) os _ inside w.in-default.ensures in
+      | in_default w ↦
+          let same-work = total-none (λ k. (m k).work) os _ inside w.in_default.ensures in
+          let same-burst = total-none (λ k. (m k).burst) os _ inside w.in_default.ensures in
           (omega (arith, same-work, w.works-is), omega (arith, w.works-is), omega (arith, same-burst, w.bursts-is), omega (arith, w.bursts-is))
     ]
 

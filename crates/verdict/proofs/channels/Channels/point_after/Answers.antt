@@ -3,4 +3,4 @@ use Rattle.verdict.proofs.Totals.{place_within}
 use Rattle.verdict.proofs.channels.Channels.point_after.Goals as goal
 
 pub next-rise-requires : goal.next-rise-requires
-next-rise-requires g c = place_within _ _ _ (places c.args.self.now) c.requires _ _ c.in-ok-k.ensures
+next-rise-requires g c = place_within _ _ _ (places c.args.self.now) c.requires _ _ c.in_ok-k.ensures

@@ -22,8 +22,8 @@ rows-init g c =
     let peeked = c.in-Some.ensures in
     (c.points.invariant.0, walk_enters m c.args.longest (places c.args.self.now) laws c.args.end c.points.invariant.1 c.points.invariant.2 c.in-Some.first (sym peeked.next) peeked.first.1)
 
-pub overflow-add-sum : goal.overflow-add-sum
-overflow-add-sum g c =
+pub overflow_add-sum : goal.overflow_add-sum
+overflow_add-sum g c =
     let m = g.K.Curve.numbers in
     let os = places c.args.self.now in
     let laws = row_laws m g.K.Curve.limits g.met.K.Curve.shaped c.requires.judged in
@@ -36,7 +36,7 @@ points-preserved g c =
     let m = g.K.Curve.numbers in
     let laws = row_laws m g.K.Curve.limits g.met.K.Curve.shaped c.requires.judged in
     let peeked = c.in-Some.ensures in
-    let over = c.in-default.ensures in
+    let over = c.in_default.ensures in
     (over.sound, walk_goes_on m c.args.longest (places c.args.self.now) laws c.args.end c.points.invariant.1 c.points.invariant.2 c.in-Some.first (sym peeked.next) peeked.first.1 over.advanced (omega (arith, c.if-from-sum.false)), over.advanced)
 
 pub points-smaller : goal.points-smaller
@@ -59,4 +59,4 @@ returns-then-from-sum g c =
     let m = g.K.Curve.numbers in
     let laws = row_laws m g.K.Curve.limits g.met.K.Curve.shaped c.requires.judged in
     let peeked = c.in-Some.ensures in
-    walk_fails m c.args.longest (places c.args.self.now) laws c.args.end c.points.invariant.1 c.points.invariant.2 c.in-Some.first (sym peeked.next) peeked.first.1 c.in-default.ensures.advanced (omega (arith, c.if-from-sum.true))
+    walk_fails m c.args.longest (places c.args.self.now) laws c.args.end c.points.invariant.1 c.points.invariant.2 c.in-Some.first (sym peeked.next) peeked.first.1 c.in_default.ensures.advanced (omega (arith, c.if-from-sum.true))
