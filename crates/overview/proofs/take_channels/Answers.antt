@@ -17,7 +17,7 @@ loop-channel-init c =
 pub loop-channel-preserved : goal.loop-channel-preserved
 loop-channel-preserved c =
     let p = c.args.longest in
-    elim c.match-why-refused.branch [
+    elim c.match-why_refused.branch [
       | in-Some+in_ok-println w ↦ subst (λ rows. Stands kind_numbers kind_limits p (kinds (vec_items rows))) (sym w.rows-is) c.loop-channel.invariant
       | in_default+in_ok-push+in_ok-print-channel w ↦
           seated kind_numbers kind_limits p _ _ _ _ _ c.deref.ensures.value (ap vec_items w.rows-is ∙ w.in_ok-push.ensures.items) refl w.in_default.ensures

@@ -10,7 +10,7 @@ use Rattle.plan.proofs.plan_of.Goals as goal
 
 pub returns-in_err-count : goal.returns-in_err-count
 returns-in_err-count c =
-    rw (fault_passed c.from-residual.result c.in_err-count.field-0.0 c.from-residual.ensures.1)
+    rw (fault_passed c.from_residual.result c.in_err-count.field-0.0 c.from_residual.ensures.1)
     (read_no_count c.args.text.now c.requires c.in_err-count.field-0.0 c.in_err-count.ensures)
 
 pub returns-then-branch-ne1 : goal.returns-then-branch-ne1
@@ -18,17 +18,17 @@ returns-then-branch-ne1 c = read_other_count c.args.text.now c.requires c.in_ok-
 
 pub returns-in_err-longest : goal.returns-in_err-longest
 returns-in_err-longest c =
-    rw (fault_passed c.from-residual-in_err-longest.result c.in_err-longest.field-0.0 c.from-residual-in_err-longest.ensures.1)
+    rw (fault_passed c.from_residual-in_err-longest.result c.in_err-longest.field-0.0 c.from_residual-in_err-longest.ensures.1)
     (read_no_longest c.args.text.now c.requires c.in_ok-count.ensures c.if-branch-ne1.false c.in_err-longest.field-0.0 c.in_err-longest.ensures)
 
 pub returns-in_err-channels : goal.returns-in_err-channels
 returns-in_err-channels c =
-    rw (fault_passed c.from-residual-in_err-channels.result c.in_err-channels.field-0.0 c.from-residual-in_err-channels.ensures.1)
+    rw (fault_passed c.from_residual-in_err-channels.result c.in_err-channels.field-0.0 c.from_residual-in_err-channels.ensures.1)
     (read_no_channels c.args.text.now c.requires c.in_ok-count.ensures c.if-branch-ne1.false c.in_ok-longest.longest c.in_ok-longest.ensures c.in_err-channels.field-0.0 c.in_err-channels.ensures)
 
 pub returns-in_err-calls : goal.returns-in_err-calls
 returns-in_err-calls c =
-    rw (fault_passed c.from-residual-in_err-calls.result c.in_err-calls.field-0.0 c.from-residual-in_err-calls.ensures.1)
+    rw (fault_passed c.from_residual-in_err-calls.result c.in_err-calls.field-0.0 c.from_residual-in_err-calls.ensures.1)
     (read_no_calls c.args.text.now c.requires c.in_ok-count.ensures c.if-branch-ne1.false c.in_ok-longest.longest c.in_ok-longest.ensures c.in_ok-channels.channels (cut c.section.new.lines.rest.now) c.in_ok-channels.ensures c.in_err-calls.field-0.0 c.in_err-calls.ensures)
 
 pub overflow_add-result : goal.overflow_add-result

@@ -6,12 +6,12 @@ use Rattle.plan.proofs.sections.section.Goals as goal
 
 pub returns-in_err-count : goal.returns-in_err-count
 returns-in_err-count g c =
-    rw (fault_passed c.from-residual.result c.in_err-count.field-0.0 c.from-residual.ensures.1)
+    rw (fault_passed c.from_residual.result c.in_err-count.field-0.0 c.from_residual.ensures.1)
     (count_broken g.E.Entry.words g.E.Entry.mats c.args.number (cut c.args.lines.now.rest.now) c.in_err-count.field-0.0 c.in_err-count.ensures)
 
 pub returns-in_err-entry : goal.returns-in_err-entry
 returns-in_err-entry g c =
-    rw (fault_passed c.from-residual-in_err-entry.result c.in_err-entry.field-0.0 c.from-residual-in_err-entry.ensures.1)
+    rw (fault_passed c.from_residual-in_err-entry.result c.in_err-entry.field-0.0 c.from_residual-in_err-entry.ensures.1)
     (entry_broken g.E.Entry.words g.E.Entry.mats c.args.number c.in_ok-count.count c.loop-k.k c.in_err-entry.field-0.0 c.in_ok-count.ensures c.loop-k.invariant c.loop-k-test.true c.in_err-entry.ensures)
 
 pub loop-k-preserved : goal.loop-k-preserved

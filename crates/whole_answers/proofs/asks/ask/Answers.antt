@@ -15,8 +15,8 @@ pub returns : goal.returns
 returns c =
     let start = model c.open-link.result in
     let first = vec_items c.in_ok-lines.lines in
-    let n = model c.ask-all.new.link in
-    let ls = vec_items c.ask-all.new.lines in
+    let n = model c.ask_all.new.link in
+    let ls = vec_items c.ask_all.new.lines in
     told_all (script c.args.plan.now) start ls c.open-link.ensures.said first n
     (sym c.shut.ensures ∙ c.if-shut.false) c.in_ok-lines.ensures
-    (subst (λ (xs : List Channel). Asking xs start first n ls) c.deref.ensures.value c.in_ok-ask-all.ensures)
+    (subst (λ (xs : List Channel). Asking xs start first n ls) c.deref.ensures.value c.in_ok-ask_all.ensures)

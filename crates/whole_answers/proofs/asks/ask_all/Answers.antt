@@ -12,7 +12,7 @@ loop-channel-preserved c =
     asking_more c.args.channels.now (model c.args.link.now) (vec_items c.args.lines.now) c.loop-channel.channel-index _
     c.least-found.result c.join.result (model c.loop-channel.link) (model c.join.new.link) ks (vec_items c.push.new.self)
     c.loop-channel-test.true c.loop-channel.invariant c.least-found.ensures c.join.ensures
-    (c.in_ok-push.ensures.items ∙ ap (λ l. ks ++ l ∷ []) c.least-line.ensures)
+    (c.in_ok-push.ensures.items ∙ ap (λ l. ks ++ l ∷ []) c.least_line.ensures)
 
 pub returns : goal.returns
 returns c =

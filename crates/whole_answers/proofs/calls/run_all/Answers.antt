@@ -10,7 +10,7 @@ loop-call-init c = turn_none Make c.args.calls.now (model c.args.link.now) (vec_
 pub loop-call-preserved : goal.loop-call-preserved
 loop-call-preserved c =
     turn_more Make c.args.calls.now (model c.args.link.now) (vec_items c.args.lines.now) c.loop-call.call-index _ _ _ _ _
-    c.loop-call-test.true c.loop-call.invariant c.in_ok-run-call.ensures
+    c.loop-call-test.true c.loop-call.invariant c.in_ok-run_call.ensures
 
 pub returns : goal.returns
 returns c = turn_all Make c.args.calls.now (model c.args.link.now) (vec_items c.args.lines.now) c.loop-call.call-index _ _ c.loop-call-test.false c.loop-call.invariant

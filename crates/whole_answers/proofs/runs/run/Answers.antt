@@ -17,11 +17,11 @@ pub returns : goal.returns
 returns c =
     let start = model c.open-link.result in
     let first = vec_items c.in_ok-lines.lines in
-    let m = model c.join-all.new.link in
-    let js = vec_items c.join-all.new.lines in
-    let n = model c.run-all.new.link in
-    let ls = vec_items c.run-all.new.lines in
+    let m = model c.join_all.new.link in
+    let js = vec_items c.join_all.new.lines in
+    let n = model c.run_all.new.link in
+    let ls = vec_items c.run_all.new.lines in
     ran (script c.args.plan.now) start ls c.open-link.ensures.said (λ cs n h. (c.open-link.ensures.promise cs n h).on_time) first js m n
     (sym c.shut.ensures ∙ c.if-shut.false) c.in_ok-lines.ensures
-    (subst (λ (xs : List Channel). Part (λ cs ds. InTurn Join cs xs ds) start first m js) c.deref.ensures.value c.in_ok-join-all.ensures)
-    (subst (λ (xs : List Call). Part (λ cs ds. InTurn Make cs xs ds) m js n ls) c.deref-2.ensures.value c.in_ok-run-all.ensures)
+    (subst (λ (xs : List Channel). Part (λ cs ds. InTurn Join cs xs ds) start first m js) c.deref.ensures.value c.in_ok-join_all.ensures)
+    (subst (λ (xs : List Call). Part (λ cs ds. InTurn Make cs xs ds) m js n ls) c.deref-2.ensures.value c.in_ok-run_all.ensures)

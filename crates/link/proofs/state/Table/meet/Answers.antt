@@ -11,8 +11,8 @@ invariant_of-self c =
     let is : set rs i c.meet.new.self ≡ changed (moved e) i rs = ap (set rs i) c.meet.ensures ∙ set_changed (moved e) i rs _ in (
       length-set rs i c.meet.new.self ∙ c.args.self.now.full,
       (
-        ap (λ qs. c.may-leave-self.result || none_leaving qs) is
-            ∙ ap (λ b. b || none_leaving (changed (moved e) i rs)) c.may-leave-self.ensures
+        ap (λ qs. c.may_leave-self.result || none_leaving qs) is
+            ∙ ap (λ b. b || none_leaving (changed (moved e) i rs)) c.may_leave-self.ensures
             ∙ known_moved c.args.self.now.leaving e i rs c.args.self.now.known,
         tt,
       ),

@@ -5,8 +5,8 @@ use Rattle.link.proofs.state.Table.rest.Goals as goal
 
 pub invariant_of-self : goal.invariant_of-self
 invariant_of-self c = (
-  c.meet-all.auto.records ∙ c.args.self.now.full,
-  (ap none_leaving c.meet-all.ensures ∙ rest_calm c.args.self.now.records, tt),
+  c.meet_all.auto.records ∙ c.args.self.now.full,
+  (ap none_leaving c.meet_all.ensures ∙ rest_calm c.args.self.now.records, tt),
 )
 
 pub returns-else-self : goal.returns-else-self

@@ -21,6 +21,6 @@ returns g c =
     let m = g.K.Curve.numbers in
     let ks = channels self in
     let laws = row_laws m _ g.met.K.Curve.shaped c.requires.judged in
-    let end : c.largest-allowance-end.result + 5040 ≡ horizon m ks = omega (arith, c.largest-allowance-end.ensures.0) in
+    let end : c.largest_allowance-end.result + 5040 ≡ horizon m ks = omega (arith, c.largest_allowance-end.ensures.0) in
     let last = subst (λ h. NextPoint (curves m ks) self.longest c.loop-point.t h None) end c.in_default.ensures in
     tightest_of_all m self.longest ks laws c.requires.passes.works_fit c.loop-point.t _ c.loop-point.invariant last

@@ -6,9 +6,9 @@ use Rattle.plan.proofs.Cuts.{cut_found, cut_not_found}
 use Rattle.plan.proofs.cursor.Lines.next.Goals as goal
 use Rattle.plan.proofs.cursor.Lines.next.Goals.{then-end-text, else-end-text}
 
-pub returns-then-is-empty : goal.returns-then-is-empty
-returns-then-is-empty c =
-    ap cut (nil_from_length c.args.self.now.rest.now (true-eqb (length c.args.self.now.rest.now) 0 c.if-is-empty.ensures))
+pub returns-then-is_empty : goal.returns-then-is_empty
+returns-then-is_empty c =
+    ap cut (nil_from_length c.args.self.now.rest.now (true-eqb (length c.args.self.now.rest.now) 0 c.if-is_empty.ensures))
 
 pub returns : goal.returns
 returns c =
@@ -24,6 +24,6 @@ returns c =
       | else-end-text w ↦
           let tail : cut c.if-end-text.self.now ≡ [] = ap (λ r. cut r.now) w.self-is in
           let whole = take_all end text w.if-end-text.false in
-          let e = cut_not_found text (λ k h. found.before k (omega arith)) (omega (arith, false-eqb (length text) 0 c.if-is-empty.ensures)) in
+          let e = cut_not_found text (λ k h. found.before k (omega arith)) (omega (arith, false-eqb (length text) 0 c.if-is_empty.ensures)) in
           cc
     ]

@@ -27,7 +27,7 @@ overflow_add-result g c =
     let h = first_pending _ _ c.in_ok-first.first (sym c.in_ok-first.ensures.next) c.requires.sweep in
     let near : c.args.t < c.args.end = omega (arith, h.below) in
     let small = sum_most (row_curve g.K.Curve.numbers os) _ c.args.end (omega arith) (λ i v below. omega (arith, most i v)) c.requires.sweep in
-    omega (arith, small, c.curve-at-level.ensures.bound, c.requires.judged.few, length-places c.args.self.now.rows.now c.args.self.now.counted.now c.args.self.now.more)
+    omega (arith, small, c.curve_at-level.ensures.bound, c.requires.judged.few, length-places c.args.self.now.rows.now c.args.self.now.counted.now c.args.self.now.more)
 
 pub returns : goal.returns
 returns g c =
@@ -36,5 +36,5 @@ returns g c =
     let r = c.replace.ensures.replaced in
     record {
       sound = c.replace.ensures.sound;
-      advanced = advance_step _ up _ _ c.in_ok-first.first r.first r.rest _ _ c.point-after-next.result (sym c.in_ok-first.ensures.next) r.was r.taken r.put c.if-first-t.false c.point-after-next.ensures c.curve-at-level.ensures.value c.requires.sweep;
+      advanced = advance_step _ up _ _ c.in_ok-first.first r.first r.rest _ _ c.point_after-next.result (sym c.in_ok-first.ensures.next) r.was r.taken r.put c.if-first-t.false c.point_after-next.ensures c.curve_at-level.ensures.value c.requires.sweep;
     }

@@ -16,6 +16,6 @@ loop-i-preserved g c =
     let m = g.K.Curve.numbers in
     let laws = row_laws m g.K.Curve.limits g.met.K.Curve.shaped c.requires.judged in
     let up = row_up m c.args.longest os laws in
-    let next = fill_next _ up c.args.end c.loop-i.i c.requires.some (row_zero m c.args.longest os laws _) c.loop-i.invariant.3 _ c.point-after-first.ensures in
+    let next = fill_next _ up c.args.end c.loop-i.i c.requires.some (row_zero m c.args.longest os laws _) c.loop-i.invariant.3 _ c.point_after-first.ensures in
     let added = c.add.ensures in
     (added.sound, omega (arith, added.room), omega (arith, added.count), sweep_shuffled _ up _ c.args.end added.added next)

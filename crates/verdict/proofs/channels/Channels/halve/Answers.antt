@@ -33,7 +33,7 @@ loop-high-init g c =
 pub probe-failing-requires : goal.probe-failing-requires
 probe-failing-requires g c =
     let ks = rows_counted c.args.self.now in
-    let is = c.with.ensures.members ∙ ap (λ k. ks ++ k ∷ []) c.with-allowance.ensures in
+    let is = c.with.ensures.members ∙ ap (λ k. ks ++ k ∷ []) c.with_allowance.ensures in
     let b = c.loop-high.invariant in
     let middle = c.loop-high.low + (c.loop-high.high - c.loop-high.low) / 2 in
     let least : (g.K.Curve.numbers c.args.widest).longest ≤ middle = omega (arith, b.floor, b.order, c.loop-high-test.true) in
@@ -48,7 +48,7 @@ probe-failing-requires g c =
 pub loop-high-preserved-then-failing-eq0 : goal.loop-high-preserved-then-failing-eq0
 loop-high-preserved-then-failing-eq0 g c =
     let ks = rows_counted c.args.self.now in
-    let is = c.with.ensures.members ∙ ap (λ k. ks ++ k ∷ []) c.with-allowance.ensures in
+    let is = c.with.ensures.members ∙ ap (λ k. ks ++ k ∷ []) c.with_allowance.ensures in
     let b = c.loop-high.invariant in
     let middle = c.loop-high.low + (c.loop-high.high - c.loop-high.low) / 2 in
     let probed = subst (λ x. Probed g.K.Curve.numbers (blocking c.args.longest) x c.probe-failing.result) is c.probe-failing.ensures in
@@ -57,7 +57,7 @@ loop-high-preserved-then-failing-eq0 g c =
 pub loop-high-preserved : goal.loop-high-preserved
 loop-high-preserved g c =
     let ks = rows_counted c.args.self.now in
-    let is = c.with.ensures.members ∙ ap (λ k. ks ++ k ∷ []) c.with-allowance.ensures in
+    let is = c.with.ensures.members ∙ ap (λ k. ks ++ k ∷ []) c.with_allowance.ensures in
     let b = c.loop-high.invariant in
     let middle = c.loop-high.low + (c.loop-high.high - c.loop-high.low) / 2 in
     let probed = subst (λ x. Probed g.K.Curve.numbers (blocking c.args.longest) x c.probe-failing.result) is c.probe-failing.ensures in

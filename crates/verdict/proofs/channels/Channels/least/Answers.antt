@@ -11,7 +11,7 @@ law g = record { shaped = g.met.K.Curve.shaped; redated = g.met.K.Curve.redated;
 pub returns-in_default : goal.returns-in_default
 returns-in_default g c =
     let ks = rows_counted c.args.self.now in
-    let widest = c.with-allowance-widest.ensures in
+    let widest = c.with_allowance-widest.ensures in
     let judged = judgeable_same g.K.Curve.limits c.args.longest c.with.ensures.size (c.with.ensures.members ∙ ap (λ k. ks ++ k ∷ []) widest) (c.if-not-judgeable.ensures.0 refl) in
-    let at = judged_same g.K.Curve.limits c.args.longest c.with-2.ensures.size (c.with-2.ensures.members ∙ ap (λ k. ks ++ k ∷ []) (c.with-allowance.ensures ∙ ap (λ k. g.K.Curve.dated k 40320) widest)) g.K.Curve.numbers _ c.judge.ensures.judged in
+    let at = judged_same g.K.Curve.limits c.args.longest c.with-2.ensures.size (c.with-2.ensures.members ∙ ap (λ k. ks ++ k ∷ []) (c.with_allowance.ensures ∙ ap (λ k. g.K.Curve.dated k 40320) widest)) g.K.Curve.numbers _ c.judge.ensures.judged in
     least_refused _ _ _ (law g) _ _ ks c.args.new judged c.judge.result c.in_default.not-Granted at

@@ -2,5 +2,5 @@ use Rattle.verdict.specs.Members.{places}
 use Rattle.verdict.proofs.Totals.{place_within}
 use Rattle.verdict.proofs.channels.Channels.point_after.Goals as goal
 
-pub next-rise-requires : goal.next-rise-requires
-next-rise-requires g c = place_within _ _ _ (places c.args.self.now) c.requires _ _ c.in_ok-k.ensures
+pub next_rise-requires : goal.next_rise-requires
+next_rise-requires g c = place_within _ _ _ (places c.args.self.now) c.requires _ _ c.in_ok-k.ensures
