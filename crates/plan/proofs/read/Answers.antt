@@ -6,6 +6,6 @@ returns c =
     let read = c.plan_of.ensures in
     record {
       answered = read;
-      written-again = written_again_from_read c.args.text.now c.plan_of.result read;
+      written_again = written_again_from_read c.args.text.now c.plan_of.result read;
       read_back = read_back_from_read c.args.text.now c.plan_of.result read;
     }

@@ -2,9 +2,9 @@ use Rattle.std.proofs.Common.{arith, ltb-false, ltb-true}
 use Rattle.plan.proofs.Listed.{listed_one, listed_two}
 use Rattle.plan.proofs.entries.CallEntry.pick.Goals as goal
 
-pub returns-in_ok-mat : goal.returns-in_ok-mat
-returns-in_ok-mat c =
-    let m = c.in_ok-mat.ensures in
+pub returns-in_ok-mat-in-O-len2 : goal.returns-in_ok-mat-in-O-len2
+returns-in_ok-mat-in-O-len2 c =
+    let m = c.in_ok-mat-in-O-len2.ensures in
     let e = listed_two c.args.numbers.now (omega (arith, ltb-true, ltb-false)) in
     (((omega arith, (omega (arith, c.type_inv.numbers 1), tt)), (omega arith, tt)), cc)
 
@@ -18,8 +18,8 @@ returns-in-T-len1 c =
     let e = listed_one c.args.numbers.now (omega (arith, ltb-true, ltb-false)) in
     (((omega (arith, c.type_inv.numbers 0), tt), tt), cc)
 
-pub returns-in_ok-mat-2 : goal.returns-in_ok-mat-2
-returns-in_ok-mat-2 c =
-    let m = c.in_ok-mat-2.ensures in
+pub returns-in_ok-mat-in-R-len1 : goal.returns-in_ok-mat-in-R-len1
+returns-in_ok-mat-in-R-len1 c =
+    let m = c.in_ok-mat-in-R-len1.ensures in
     let e = listed_one c.args.numbers.now (omega (arith, ltb-true, ltb-false)) in
     (((omega arith, tt), (omega arith, tt)), cc)

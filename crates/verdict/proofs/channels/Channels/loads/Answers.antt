@@ -51,5 +51,5 @@ returns g c =
     record {
       works = c.loop-i.invariant.0 ∙ ap (works g.K.Curve.numbers) all;
       bursts = c.loop-i.invariant.2 ∙ ap (bursts g.K.Curve.numbers) all;
-      bursts-bound = omega (arith, c.requires.few, length-places c.args.self.now.rows.now c.args.self.now.counted.now c.args.self.now.more);
+      bursts_bound = omega (arith, c.requires.few, length-places c.args.self.now.rows.now c.args.self.now.counted.now c.args.self.now.more);
     }
