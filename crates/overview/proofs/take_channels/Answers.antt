@@ -3,7 +3,7 @@ use Rattle.plan.specs.Kinds.{kind_numbers, kind_limits}
 use Rattle.overview.specs.Standing.{kinds, Stands}
 use Rattle.overview.proofs.Joining.{none_stand, room, seated}
 use Rattle.overview.proofs.take_channels.Goals as goal
-use Rattle.overview.proofs.take_channels.Goals.{in-Some+in_ok-println, in_default+in_ok-push+in_ok-print-channel}
+use Rattle.overview.proofs.take_channels.Goals.{in-Some+in_ok-println, in_default+in_ok-push+in_ok-print_channel}
 
 pub bounds-len : goal.bounds-len
 bounds-len c =
@@ -19,6 +19,6 @@ loop-channel-preserved c =
     let p = c.args.longest in
     elim c.match-why_refused.branch [
       | in-Some+in_ok-println w ↦ subst (λ rows. Stands kind_numbers kind_limits p (kinds (vec_items rows))) (sym w.rows-is) c.loop-channel.invariant
-      | in_default+in_ok-push+in_ok-print-channel w ↦
+      | in_default+in_ok-push+in_ok-print_channel w ↦
           seated kind_numbers kind_limits p _ _ _ _ _ c.deref.ensures.value (ap vec_items w.rows-is ∙ w.in_ok-push.ensures.items) refl w.in_default.ensures
     ]
