@@ -1,5 +1,5 @@
 -- From the condition to schedules: the verdict and the least allowance are exact.
-use Rattle.std.proofs.Common.{◌≡◌, ℕ, ◌<◌, ◌≤◌, Bool, true, false, not, List, [], ◌∷◌, ◌++◌, Ok, Err, Decides, Result, refl, arith}
+use Rattle.std.proofs.Common.{ℕ, Bool, true, false, not, List, Ok, Err, Decides, Result, refl, arith}
 use Rattle.std.proofs.lemmas.Bool.{false≢true}
 use Rattle.traffic.specs.Arrivals.{Steps}
 use Rattle.traffic.specs.Curves.{Numbers}

@@ -1,6 +1,6 @@
 -- A refusal comes exactly where it is needed. Some arrivals defeat channels if they make every schedule late that breaks off no packet
 -- and never idles while one waits.
-use Rattle.std.specs.Prelude.{◌≡◌, ℕ, ◌<◌, ◌≤◌, Bool, not, List, [], ◌∷◌, ◌++◌, is_ok, IfOk, Decides, Result}
+use Rattle.std.specs.Prelude.{ℕ, ◌<◌, ◌≤◌, Bool, not, List, [], ◌∷◌, ◌++◌, is_ok, IfOk, Decides, Result}
 use Rattle.traffic.specs.Arrivals.{Steps}
 use Rattle.traffic.specs.Curves.{Numbers}
 use Rattle.verdict.specs.Judged.{Judgeable, granted}

@@ -1,4 +1,6 @@
 // The grant rule, exact: what is refused could not have been carried by any schedule.
+#![tactic(auto)]
+
 ghost use Rattle.verdict.specs.Judged.{Judged};
 ghost use Rattle.verdict.specs.Least.{Least};
 ghost use Rattle.verdict.specs.Members.{members, rows_counted, size};

@@ -1,5 +1,7 @@
 // Reads a plan from standard input and prints, for each of its channels in turn, the least allowance that would do beside those
 // granted before it.
+#![tactic(auto)]
+
 use answers::decisions::Granted;
 use answers::lines::Line;
 use plan::{Fault, Plan, read};

@@ -1,4 +1,6 @@
 // Reads a plan: the longest packet of a link, its channels and the calls to run on it.
+#![tactic(auto)]
+
 ghost use Rattle.std.specs.Prelude.{◌≡◌, ◌≤◌, length};
 ghost use Rattle.plan.specs.Reading.{Read, WrittenAgain, ReadBack};
 ghost use Rattle.plan.specs.declared.Fault.TheVariants.{NoMemory};

@@ -1,5 +1,7 @@
 // The edges of the plan format: the texts of standard input, and what each is read as.
 // A line of input is a name and a text, with \n, \t, \r, \0 and \x for the bytes 10, 9, 13, 0 and 255.
+#![tactic(auto)]
+
 use plan::{Fault, read};
 use std::alloc::{AllocError, Global};
 use std::io;

@@ -1,4 +1,6 @@
 // The ordered pool: a binary heap over a lent slice. Of its elements, one that no other precedes is taken next.
+#![tactic(auto)]
+
 ghost use Rattle.std.specs.Prelude.{◌≡◌, Bool, true, false, ◌==◌};
 ghost use Rattle.pool.specs.Contents.{capacity, Sound, Put, Taken, Peeked, next, BeyondKept};
 

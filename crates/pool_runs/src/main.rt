@@ -1,4 +1,6 @@
 // Fills and drains pools of packets and of points, with 0, 1, 2 and 256 places.
+#![tactic(auto)]
+
 ghost use Rattle.std.specs.Prelude.{◌≤◌, length};
 
 mod drain;

@@ -1,4 +1,6 @@
 // Schedules: the theory behind the grant rule. Each function stands for a theorem, which is its contract.
+#![tactic(auto)]
+
 ghost use Rattle.schedule.specs.Examples.{Examples};
 ghost use Rattle.schedule.specs.Theorems.{OnEveryLink, SomeSchedule, OnTime, Needed};
 

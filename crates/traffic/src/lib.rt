@@ -1,4 +1,6 @@
 // Traffic kinds: what a channel may send, and how much of the air it may ask for.
+#![tactic(auto)]
+
 ghost use Rattle.std.specs.Prelude.{◌≡◌, ℕ, ◌≤◌, Bool, true};
 ghost use Rattle.traffic.specs.Arrivals.{Steps, Stepped};
 ghost use Rattle.traffic.specs.Curves.{Numbers, NextRise};

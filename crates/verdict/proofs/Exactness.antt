@@ -1,12 +1,11 @@
 -- What the verdict answers decides the condition.
-use Rattle.std.proofs.Common.{◌≡◌, ℕ, ◌<◌, ◌≤◌, Bool, true, List, refl, arith}
+use Rattle.std.proofs.Common.{◌≡◌, ℕ, ◌≤◌, Bool, true, List, refl, arith}
 use Rattle.std.proofs.ByRecursion.{All-weaker}
 use Rattle.std.proofs.lemmas.Bool.{false≢true}
 use Rattle.traffic.specs.Curves.{Numbers}
 use Rattle.traffic.specs.Laws.{CurveLaws}
 use Rattle.verdict.specs.Demand.{blocking}
-use Rattle.verdict.specs.Judged.{Judgeable, Judged, Exact}
-use Rattle.verdict.specs.Passes.{Passes}
+use Rattle.verdict.specs.Judged.{Judged, Exact}
 use Rattle.verdict.specs.declared.Verdict.{Verdict}
 use Rattle.verdict.specs.declared.Verdict.TheVariants.{Granted, OutsideLimits, Overloaded, Late}
 use Rattle.verdict.proofs.FinitePoints.{passes_by_points}

@@ -1,5 +1,5 @@
 -- The range of allowances that halving keeps: its upper end passes, its lower end does not.
-use Rattle.std.proofs.Common.{◌≡◌, ℕ, zero, suc, ◌+◌, ◌-◌, ◌<◌, ◌≤◌, Bool, true, ◌⊎◌, List, [], ◌∷◌, ◌++◌, Err, sym, refl, subst, inl, inr, ⊎_elim, arith}
+use Rattle.std.proofs.Common.{◌≡◌, ℕ, zero, suc, ◌+◌, ◌-◌, ◌<◌, ◌≤◌, Bool, List, [], ◌∷◌, ◌++◌, Err, sym, refl, subst, inl, inr, arith}
 use Rattle.traffic.specs.Curves.{Numbers, Rises}
 use Rattle.verdict.specs.Demand.{curves, horizon, blocking}
 use Rattle.verdict.specs.Judged.{Judgeable, Judged}

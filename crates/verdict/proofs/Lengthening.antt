@@ -1,11 +1,11 @@
 -- A longer allowance only lowers a channel's curve: what passes with one passes with every longer one.
-use Rattle.std.proofs.Common.{◌≡◌, ℕ, ◌+◌, ◌-◌, ◌<◌, ◌≤◌, Bool, true, List, [], ◌∷◌, ◌++◌, sym, refl, ap, ◌∙◌, subst, ⊎_elim, arith}
+use Rattle.std.proofs.Common.{◌≡◌, ℕ, ◌+◌, ◌-◌, ◌≤◌, Bool, true, List, [], ◌∷◌, ◌++◌, ap, ◌∙◌, ⊎_elim, arith}
 use Rattle.std.specs.List.{AllByRecursion as All}
 use Rattle.std.proofs.ByRecursion.{All-append}
 use Rattle.std.proofs.lemmas.Bool.{cases_lt}
 use Rattle.traffic.specs.Curves.{Numbers}
 use Rattle.traffic.specs.Laws.{Within, CurveLaws, Redated}
-use Rattle.verdict.specs.Demand.{total, works, curves, blocking}
+use Rattle.verdict.specs.Demand.{works, curves, blocking}
 use Rattle.verdict.specs.Judged.{Judgeable}
 use Rattle.verdict.specs.Least.{beside}
 use Rattle.verdict.specs.Passes.{Passes}

@@ -1,5 +1,5 @@
 -- What a sweep over rises knows, and each of its steps.
-use Rattle.std.proofs.Common.{◌≡◌, ℕ, zero, suc, ◌+◌, ◌-◌, ◌*◌, ◌<◌, ◌≤◌, Bool, true, false, cond, List, [], ◌∷◌, ◌++◌, length, Some, None, sum_by, Option, sym, refl, ap, ◌∙◌, subst, ⊎_elim, arith}
+use Rattle.std.proofs.Common.{◌≡◌, ℕ, zero, suc, ◌+◌, ◌-◌, ◌*◌, ◌<◌, ◌≤◌, List, [], ◌∷◌, ◌++◌, Some, None, sum_by, Option, sym, refl, ap, ◌∙◌, subst, ⊎_elim, arith}
 use Rattle.std.specs.Option.{option_to_list}
 use Rattle.std.specs.List.{AllByRecursion as All}
 use Rattle.std.specs.List.Sorted.{IsPermutation}
@@ -12,7 +12,7 @@ use Rattle.traffic.specs.Staircase.{before_later}
 use Rattle.traffic.proofs.Uses.{steady, steady_until_rise}
 use Rattle.verdict.specs.Demand.{total}
 use Rattle.verdict.specs.Points.{rises}
-use Rattle.verdict.specs.Sweeps.{upto, Pending, Quiet, Sweep, NextPoint, left}
+use Rattle.verdict.specs.Sweeps.{upto, Pending, Quiet, Sweep, NextPoint}
 use Rattle.verdict.specs.declared.points.Point.{Point}
 use Rattle.verdict.proofs.Counts.{rises_level}
 

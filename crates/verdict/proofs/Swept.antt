@@ -1,5 +1,5 @@
 -- A sweep over the rows of a table, as a walk over the points of the sum of their curves.
-use Rattle.std.proofs.Common.{◌≡◌, ℕ, zero, suc, ◌+◌, ◌-◌, ◌*◌, ◌<◌, ◌≤◌, Bool, true, false, List, [], ◌∷◌, ◌++◌, length, get_or, Some, None, Option, sym, refl, ap, ◌∙◌, subst, inl, inr, ⊎_elim, arith, below_more}
+use Rattle.std.proofs.Common.{◌≡◌, ℕ, ◌+◌, ◌-◌, ◌<◌, ◌≤◌, false, List, [], ◌∷◌, ◌++◌, length, get_or, Some, None, Option, sym, refl, ap, ◌∙◌, subst, inl, inr, ⊎_elim, arith, below_more}
 use Rattle.std.specs.Option.{option_to_list}
 use Rattle.std.specs.List.{AllByRecursion as All}
 use Rattle.std.specs.List.Sorted.{IsPermutation}
@@ -12,7 +12,7 @@ use Rattle.traffic.specs.Laws.{CurveLaws}
 use Rattle.traffic.specs.Staircase.{before_later}
 use Rattle.verdict.specs.Demand.{total, curves}
 use Rattle.verdict.specs.Members.{present}
-use Rattle.verdict.specs.Points.{Fits, rises, AllFit, FirstFailing, Walked, point_before}
+use Rattle.verdict.specs.Points.{Fits, rises, Walked, point_before}
 use Rattle.verdict.specs.Sweeps.{upto, row_curve, Pending, Sweep, NextPoint, left}
 use Rattle.verdict.specs.declared.points.Point.{Point}
 use Rattle.verdict.proofs.Rowwise.{row_up, rows_sum}

@@ -1,7 +1,6 @@
 -- Sums, the largest and what holds of all, over the channels at the first places, with one place more.
 use Rattle.std.proofs.Common.{◌≡◌, ℕ, zero, suc, ◌+◌, ◌<◌, ◌≤◌, max, Bool, true, List, [], ◌∷◌, ◌++◌, length, get_or, take, Some, None, Option, sym, refl, ap, ◌∙◌, subst, arith, take_all}
 use Rattle.std.specs.List.{AllByRecursion as All}
-use Rattle.std.proofs.ByRecursion.{All-push}
 use Rattle.traffic.specs.Curves.{Numbers}
 use Rattle.traffic.specs.Laws.{Within, CurveLaws}
 use Rattle.verdict.specs.Demand.{total, largest, curves}

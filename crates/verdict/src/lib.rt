@@ -1,4 +1,6 @@
 // The verdict: whether the air can carry a set of channels, by their curves alone.
+#![tactic(auto)]
+
 ghost use Rattle.std.specs.Prelude.{◌≡◌, ℕ, ◌≤◌, Bool, true, false};
 ghost use Rattle.verdict.specs.Judged.{Judged, Exact};
 ghost use Rattle.verdict.specs.Members.{members, size};

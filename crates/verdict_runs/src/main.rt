@@ -1,4 +1,6 @@
 // Runs the verdict, the least allowance and the stretch on worked channels; what it prints is compared.
+#![tactic(auto)]
+
 use std::alloc::Global;
 use std::io;
 use traffic::Row;

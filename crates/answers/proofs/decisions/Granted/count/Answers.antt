@@ -1,4 +1,4 @@
-use Rattle.std.proofs.Common.{map, vec_items, sym, ap, ◌∙◌, subst}
+use Rattle.std.proofs.Common.{map, vec_items, sym, ap, ◌∙◌}
 use Rattle.answers.specs.Decisions.{counted}
 use Rattle.answers.proofs.Deciding.{kinds_push}
 use Rattle.answers.proofs.decisions.Granted.count.Goals as goal

@@ -1,5 +1,4 @@
 use Rattle.std.proofs.Common.{arith}
-use Rattle.std.proofs.ByRecursion.{All-weaker}
 use Rattle.verdict.specs.Members.{places}
 use Rattle.verdict.proofs.Places.{length-places}
 use Rattle.verdict.proofs.Rowwise.{row_laws, row_up, row_zero}

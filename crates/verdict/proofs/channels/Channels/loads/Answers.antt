@@ -1,10 +1,8 @@
-use Rattle.std.proofs.Common.{◌≡◌, ◌<◌, ◌≤◌, length, ap, ◌∙◌, arith}
-use Rattle.traffic.specs.Laws.{CurveLaws}
+use Rattle.std.proofs.Common.{◌<◌, length, ap, ◌∙◌, arith}
 use Rattle.verdict.specs.Demand.{works, bursts}
 use Rattle.verdict.specs.Members.{places}
 use Rattle.verdict.proofs.Places.{length-places}
 use Rattle.verdict.proofs.Totals.{total-one, total-none, present_all, place_limits, place_within}
-use Rattle.verdict.proofs.channels.Channels.loads.Given as given
 use Rattle.verdict.proofs.channels.Channels.loads.Goals as goal
 use Rattle.verdict.proofs.channels.Channels.loads.Goals.{in-Some, in_default}
 
