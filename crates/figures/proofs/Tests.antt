@@ -1,6 +1,6 @@
 -- Tests that compute: a look at the first few t, and one at the line that the curves stay under, decide every t.
 use Rattle.std.proofs.Common.{◌≡◌, ℕ, zero, suc, ◌+◌, ◌-◌, ◌*◌, ◌<◌, ◌≤◌, Bool, true, ◌&&◌, ◌||◌, eqb, ltb, leb, List, [], ◌∷◌, Decides, refl, subst, inl, inr, add-mul, mul-le-mul_left, mul-add, arith}
-use Rattle.std.specs.List.{AllByRecursion as All}
+use Rattle.std.specs.List.{AllByRecursion}
 use Rattle.std.proofs.lemmas.Bool.{and_parts, or_cases, leb-true, ltb-true, eqb-true, cases_lt}
 use Rattle.std.proofs.lemmas.Bool.Decides.{nat_tests, Decides-below_and}
 use Rattle.traffic.specs.Curves.{Numbers, before}
@@ -49,7 +49,7 @@ module _ {K : Type 0} (m : K → Numbers) (p : ℕ) where
   abbrev spared : List K → ℕ
   spared = total (λ k. (m k).allowance * (m k).work)
 
-  curves_under_line : (ks : List K) → All (λ k. CurveLaws p (m k)) ks → (t : ℕ) → largest (λ k. (m k).allowance) ks ≤ t → 5040 * curves m ks t + spared ks ≤ 5040 * bursts m ks + t * works m ks
+  curves_under_line : (ks : List K) → AllByRecursion (λ k. CurveLaws p (m k)) ks → (t : ℕ) → largest (λ k. (m k).allowance) ks ≤ t → 5040 * curves m ks t + spared ks ≤ 5040 * bursts m ks + t * works m ks
   curves_under_line [] laws t past = omega arith
   curves_under_line (k ∷ ks) laws t past =
       let n : ℕ = t - (m k).allowance in
@@ -64,7 +64,7 @@ module _ {K : Type 0} (m : K → Numbers) (p : ℕ) where
       leb (works m ks) 5040 && (leb (largest (λ k. (m k).allowance) ks) n
       && (leb (5040 * (bursts m ks + (p - 1)) + n * works m ks) (5040 * n + spared ks) && fitting (blocking p) (curves m ks) n))
 
-  pub passes_tested : (n : ℕ) (ks : List K) → All (λ k. CurveLaws p (m k)) ks → passing n ks ≡ true → Passes m (blocking p) ks
+  pub passes_tested : (n : ℕ) (ks : List K) → AllByRecursion (λ k. CurveLaws p (m k)) ks → passing n ks ≡ true → Passes m (blocking p) ks
   passes_tested n ks laws tested =
       let a = and_parts (leb (works m ks) 5040) _ tested in
       let b = and_parts (leb (largest (λ k. (m k).allowance) ks) n) _ a.1 in

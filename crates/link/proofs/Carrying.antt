@@ -2,7 +2,7 @@
 use Rattle.std.proofs.Common.{◌≡◌, ℕ, ◌+◌, ◌<◌, ◌≤◌, Bool, true, false, cond, List, [], ◌∷◌, ◌++◌, map, Some, None, Option, refl, arith}
 use Rattle.std.proofs.ByRecursion.{All-weaker}
 use Rattle.std.proofs.lemmas.Bool.{leb-true, leb-false}
-use Rattle.std.specs.List.{AllByRecursion as All}
+use Rattle.std.specs.List.{AllByRecursion}
 use Rattle.schedule.specs.Jobs.{Job, never, at}
 use Rattle.schedule.specs.Schedules.{Begun, end}
 use Rattle.schedule.proofs.Logs.{Queue}
@@ -36,13 +36,13 @@ pub record Flies (s : ℕ) (a : Air) (x : Begun) : Type 0 where
 
 -- at the start of slot s, once something has gone on the air
 abbrev pub Up : ℕ → Option Air → List Begun → Type 0
-Up s None l = All (λ x. end x ≤ s) l
+Up s None l = AllByRecursion (λ x. end x ≤ s) l
 Up s (Some a) [] = ⊥
 Up s (Some a) (x ∷ l) = Flies s a x
 
 -- between slots: what is on the air has sent a slot at least
 abbrev pub OnAir : ℕ → Option Air → List Begun → Type 0
-OnAir s None l = All (λ x. end x ≤ s) l
+OnAir s None l = AllByRecursion (λ x. end x ≤ s) l
 OnAir s (Some a) l = (1 ≤ a.sent) × Up s (Some a) l
 
 -- A slot passes.

@@ -1,7 +1,7 @@
 -- What a call makes of a link: every history is a chain of these few changes.
 use Rattle.std.proofs.Common.{◌≡◌, ℕ, ◌+◌, ◌≤◌, Bool, true, false, cond, ◌&&◌, eqb, List, [], ◌∷◌, ◌++◌, length, Some, None, Ok, Err, Option, Result, sym, refl, ap, ◌∙◌, subst, arith}
 use Rattle.std.proofs.lemmas.Bool.{true≢false, and_parts, leb-true}
-use Rattle.std.specs.List.{slice_get, AllByRecursion as All}
+use Rattle.std.specs.List.{slice_get, AllByRecursion}
 use Rattle.std.specs.Option.{option_map}
 use Rattle.std.specs.List.Sorted.{IsPermutation}
 use Rattle.traffic.specs.Arrivals.{Steps}
@@ -69,7 +69,7 @@ module _ {X S : Type 0} (numbers : X → Numbers) (limits : X → ℕ → Bool) 
     pub place : ℕ
     pub vacant : Vacant n place
     pub named : 1 ≤ mat
-    pub uncounted : All (λ (r : FullRow X S). fits (OfMat mat) r.entry ≡ false) n.rows
+    pub uncounted : AllByRecursion (λ (r : FullRow X S). fits (OfMat mat) r.entry ≡ false) n.rows
     pub judged : Judgeable limits n.terms.longest (length n.rows) (channels n.rows ++ k ∷ [])
     pub within : limits k n.terms.longest ≡ true
     pub passing : Passes numbers (blocking n.terms.longest) (channels n.rows ++ k ∷ [])

@@ -11,8 +11,8 @@ use Rattle.verdict.specs.declared.Verdict.TheVariants.{Granted, OutsideLimits, O
 use Rattle.verdict.proofs.Exactness.{judged_exact}
 use Rattle.verdict.proofs.Lengthening.{Lawful}
 use Rattle.schedule.specs.Theorems.{OnEveryLink, OnTime, Needed}
-use Rattle.admission.specs.Exact.{Needful, LeastExact as Needful-least}
-use Rattle.admission.proofs.Needed.{exact_needful, least_exact as least-needful}
+use Rattle.admission.specs.Exact.{Needful, LeastExact as NeedfulLeast}
+use Rattle.admission.proofs.Needed.{exact_needful, least_exact as needful_least}
 use Rattle.link.specs.declared.refusals.Refusal.{Refusal}
 use Rattle.link.specs.declared.state.Hold.{Hold}
 use Rattle.link.specs.Asking.{LeastUnless, Told}
@@ -59,7 +59,7 @@ module _ {X S : Type 0} (numbers : X → Numbers) (limits : X → ℕ → Bool) 
   -- what least answers by the verdict
   told_tells : (m : Model X S) (k : X) (r : Result (ℕ × ℕ) Refusal) (x : Result (ℕ × ℕ) Verdict) →
       Able m (dated k 40320) → Least numbers limits dated m.terms.longest (length m.rows) (channels m.rows) k x →
-      Needful-least numbers steps limits dated m.terms.longest (length m.rows) (channels m.rows) k x → Told x r → LeastTells numbers limits dated steps m k r
+      NeedfulLeast numbers steps limits dated m.terms.longest (length m.rows) (channels m.rows) k x → Told x r → LeastTells numbers limits dated steps m k r
   told_tells m k r (Ok found) able least exact told =
       subst (LeastTells numbers limits dated steps m k) (sym told) (record { refused = exact.refused able; number = λ e. absurd (true≢false e); carried = exact.carried; shorter = exact.shorter })
   told_tells m k r (Err OutsideLimits) able least exact told = absurd (least able)
@@ -73,4 +73,4 @@ module _ {X S : Type 0} (numbers : X → Numbers) (limits : X → ℕ → Bool) 
   pub least_exact : (m : Model X S) → Standing numbers limits m → LeastExact numbers limits dated steps m
   least_exact m s k r leasts unshut within =
       let (x, least, told) = subst (λ shut. LeastUnless numbers limits dated shut m k r) unshut leasts in
-      told_tells m k r x (judgeable m (dated k 40320) s unshut within) least (least-needful numbers steps limits timely needed dated law m.terms.longest (length m.rows) (channels m.rows) k x least) told
+      told_tells m k r x (judgeable m (dated k 40320) s unshut within) least (needful_least numbers steps limits timely needed dated law m.terms.longest (length m.rows) (channels m.rows) k x least) told

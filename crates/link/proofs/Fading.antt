@@ -1,7 +1,7 @@
 -- Rows that keep their mats, serials and kinds, and of which none begins to count.
 use Rattle.std.proofs.Common.{◌≡◌, ℕ, zero, suc, ◌≤◌, Bool, true, false, cond, List, [], ◌∷◌, map, length, Some, sym, refl, ap, ◌∙◌, subst, arith}
 use Rattle.std.proofs.lemmas.Bool.{true≢false}
-use Rattle.std.specs.List.{slice_get, AllByRecursion as All}
+use Rattle.std.specs.List.{slice_get, AllByRecursion}
 use Rattle.traffic.specs.Curves.{Numbers}
 use Rattle.traffic.specs.declared.Row.{Row}
 use Rattle.verdict.specs.Demand.{total, blocking}
@@ -93,7 +93,7 @@ module _ {X S : Type 0} where
       let z = h (f.counts_less x) (g.counts_less y) in
       (λ e. z.0 (sym f.mat ∙ e ∙ g.mat), λ e. z.1 (sym f.serial ∙ e ∙ g.serial))
 
-  all_differ_fades : (a c : FullRow X S) (rs qs : List (FullRow X S)) → Fade a c → Fades rs qs → All (Differ a) rs → All (Differ c) qs
+  all_differ_fades : (a c : FullRow X S) (rs qs : List (FullRow X S)) → Fade a c → Fades rs qs → AllByRecursion (Differ a) rs → AllByRecursion (Differ c) qs
   all_differ_fades a c [] [] f g h = tt
   all_differ_fades a c [] (q ∷ qs) f g h = absurd g
   all_differ_fades a c (r ∷ rs) [] f g h = absurd g
@@ -105,7 +105,7 @@ module _ {X S : Type 0} where
   apart_fades (r ∷ rs) [] g h = absurd g
   apart_fades (r ∷ rs) (q ∷ qs) g h = (all_differ_fades r q rs qs g.0 g.1 h.0, apart_fades rs qs g.1 h.1)
 
-  numbered_fades : (n : ℕ) (rs qs : List (FullRow X S)) → Fades rs qs → All (Numbered n) rs → All (Numbered n) qs
+  numbered_fades : (n : ℕ) (rs qs : List (FullRow X S)) → Fades rs qs → AllByRecursion (Numbered n) rs → AllByRecursion (Numbered n) qs
   numbered_fades n [] [] g h = tt
   numbered_fades n [] (q ∷ qs) g h = absurd g
   numbered_fades n (r ∷ rs) [] g h = absurd g
@@ -119,7 +119,7 @@ module _ {X : Type 0} where
   total-fewer f true false k j xs ys g e h = omega arith
   total-fewer f false false k j xs ys g e h = h
 
-  all_fewer : (P : X → Type 0) (b c : Bool) (k j : X) (xs ys : List X) → (c ≡ true → b ≡ true) → j ≡ k → (All P ys → All P xs) → All P (cond b (k ∷ ys) ys) → All P (cond c (j ∷ xs) xs)
+  all_fewer : (P : X → Type 0) (b c : Bool) (k j : X) (xs ys : List X) → (c ≡ true → b ≡ true) → j ≡ k → (AllByRecursion P ys → AllByRecursion P xs) → AllByRecursion P (cond b (k ∷ ys) ys) → AllByRecursion P (cond c (j ∷ xs) xs)
   all_fewer P true true k j xs ys g e h a = (subst P (sym e) a.0, h a.1)
   all_fewer P false true k j xs ys g e h a = absurd (true≢false (sym (g refl)))
   all_fewer P true false k j xs ys g e h a = h a.1
@@ -142,7 +142,7 @@ module _ {X S : Type 0} where
   total-fades f (r ∷ rs) (q ∷ qs) g =
       total-fewer f (counted r.entry) (counted q.entry) r.row.kind q.row.kind (channels qs) (channels rs) g.0.counts_less g.0.kind (total-fades f rs qs g.1)
 
-  all_fades : (P : X → Type 0) (rs qs : List (FullRow X S)) → Fades rs qs → All P (channels rs) → All P (channels qs)
+  all_fades : (P : X → Type 0) (rs qs : List (FullRow X S)) → Fades rs qs → AllByRecursion P (channels rs) → AllByRecursion P (channels qs)
   all_fades P [] [] g a = tt
   all_fades P [] (q ∷ qs) g a = absurd g
   all_fades P (r ∷ rs) [] g a = absurd g
@@ -155,7 +155,7 @@ module _ {X S : Type 0} where
       record {
         in_range = λ unshut. in_range_same m o t (length-fades m.rows o.rows f) (h.in_range (ap (λ (x : Terms). x.shut) (sym t) ∙ unshut));
         apart = apart_fades m.rows o.rows f h.apart;
-        numbered = subst (λ n. All (Numbered n) o.rows) (sym s) (numbered_fades m.serials m.rows o.rows f h.numbered);
-        within = subst (λ (x : Terms). All (λ k. limits k x.longest ≡ true) (channels o.rows)) (sym t) (all_fades (λ k. limits k m.terms.longest ≡ true) m.rows o.rows f h.within);
+        numbered = subst (λ n. AllByRecursion (Numbered n) o.rows) (sym s) (numbered_fades m.serials m.rows o.rows f h.numbered);
+        within = subst (λ (x : Terms). AllByRecursion (λ k. limits k x.longest ≡ true) (channels o.rows)) (sym t) (all_fades (λ k. limits k m.terms.longest ≡ true) m.rows o.rows f h.within);
         passing = subst (λ (x : Terms). Passes numbers (blocking x.longest) (channels o.rows)) (sym t) (passes_less numbers m.terms.longest (channels o.rows) (channels m.rows) (λ g. total-fades g m.rows o.rows f) h.passing);
       }

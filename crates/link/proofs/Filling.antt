@@ -1,7 +1,7 @@
 -- A free row that is filled.
 use Rattle.std.proofs.Common.{◌≡◌, ℕ, zero, suc, ◌+◌, Bool, true, false, cond, ◌&&◌, eqb, List, [], ◌∷◌, ◌++◌, set, Some, sym, refl, ap, ◌∙◌, subst, arith, length-set, eq-eqb}
 use Rattle.std.proofs.lemmas.Bool.{true≢false}
-use Rattle.std.specs.List.{slice_get, AllByRecursion as All}
+use Rattle.std.specs.List.{slice_get, AllByRecursion}
 use Rattle.traffic.specs.Curves.{Numbers}
 use Rattle.traffic.specs.declared.Row.{Row}
 use Rattle.verdict.specs.Demand.{total, blocking}
@@ -25,7 +25,7 @@ module _ {X : Type 0} where
   total-cond f true x k xs ys h = omega arith
   total-cond f false x k xs ys h = h
 
-  all_cond : (P : X → Type 0) (b : Bool) (x : X) (xs ys : List X) → (All P xs → All P ys) → All P (cond b (x ∷ xs) xs) → All P (cond b (x ∷ ys) ys)
+  all_cond : (P : X → Type 0) (b : Bool) (x : X) (xs ys : List X) → (AllByRecursion P xs → AllByRecursion P ys) → AllByRecursion P (cond b (x ∷ xs) xs) → AllByRecursion P (cond b (x ∷ ys) ys)
   all_cond P true x xs ys h a = (a.0, h a.1)
   all_cond P false x xs ys h a = h a
 
@@ -33,7 +33,7 @@ module _ {X S : Type 0} where
   differ_sym : (a b : FullRow X S) → Differ a b → Differ b a
   differ_sym a b h x y = let z = h y x in (λ e. z.0 (sym e), λ e. z.1 (sym e))
 
-  apart_set : (rs : List (FullRow X S)) (i : ℕ) (q : FullRow X S) → All (Differ q) rs → Apart rs → Apart (set rs i q)
+  apart_set : (rs : List (FullRow X S)) (i : ℕ) (q : FullRow X S) → AllByRecursion (Differ q) rs → Apart rs → Apart (set rs i q)
   apart_set [] i q d h = tt
   apart_set (r ∷ rs) zero q d h = (d.1, h.1)
   apart_set (r ∷ rs) (suc i) q d h = (all_set (Differ r) rs i q (differ_sym q r d.0) h.0, apart_set rs i q d.1 h.1)
@@ -51,13 +51,13 @@ module _ {X S : Type 0} where
         total-cond f (counted x.entry) x.row.kind q.row.kind (channels rs) (channels (set rs i q)) (total-filled f rs i r h e)
 
     all_filled : (P : X → Type 0) (rs : List (FullRow X S)) (i : ℕ) (r : FullRow X S) → slice_get rs i ≡ Some r → r.entry.phase ≡ Free →
-        P q.row.kind → All P (channels rs) → All P (channels (set rs i q))
+        P q.row.kind → AllByRecursion P (channels rs) → AllByRecursion P (channels (set rs i q))
     all_filled P [] i r h e p a = let z : ◌≡◌ {A = ℕ} 0 1 = cc in absurd (omega arith)
     all_filled P (x ∷ rs) zero r h e p a =
         let is : x ≡ r = cc in
         let free : x.entry.phase ≡ Free = ap (λ (y : FullRow X S). y.entry.phase) is ∙ e in
-        let rest : All P (channels rs) = subst (λ (y : Phase). All P (cond (counts y) (x.row.kind ∷ channels rs) (channels rs))) free a in
-        subst (λ (y : Phase). All P (cond (counts y) (q.row.kind ∷ channels rs) (channels rs))) (sym held) (p, rest)
+        let rest : AllByRecursion P (channels rs) = subst (λ (y : Phase). AllByRecursion P (cond (counts y) (x.row.kind ∷ channels rs) (channels rs))) free a in
+        subst (λ (y : Phase). AllByRecursion P (cond (counts y) (q.row.kind ∷ channels rs) (channels rs))) (sym held) (p, rest)
     all_filled P (x ∷ rs) (suc i) r h e p a =
         all_cond P (counted x.entry) x.row.kind (channels rs) (channels (set rs i q)) (all_filled P rs i r h e p) a
 
@@ -68,17 +68,17 @@ module _ {X S : Type 0} where
   )
 
   all_differ : (mat n : ℕ) (q : FullRow X S) (rs : List (FullRow X S)) → q.entry.mat ≡ mat → q.entry.serial ≡ n + 1 →
-      All (λ (r : FullRow X S). fits (OfMat mat) r.entry ≡ false) rs → All (Numbered n) rs → All (Differ q) rs
+      AllByRecursion (λ (r : FullRow X S). fits (OfMat mat) r.entry ≡ false) rs → AllByRecursion (Numbered n) rs → AllByRecursion (Differ q) rs
   all_differ mat n q [] m s h b = tt
   all_differ mat n q (r ∷ rs) m s h b = (new_differs mat n q r m s h.0 b.0, all_differ mat n q rs m s h.1 b.1)
 
-  numbered_more : (n : ℕ) (rs : List (FullRow X S)) → All (Numbered n) rs → All (Numbered (n + 1)) rs
+  numbered_more : (n : ℕ) (rs : List (FullRow X S)) → AllByRecursion (Numbered n) rs → AllByRecursion (Numbered (n + 1)) rs
   numbered_more n [] h = tt
   numbered_more n (r ∷ rs) h = (λ c. let l = h.0 c in omega arith, numbered_more n rs h.1)
 
   -- a granted hold leaves the link standing
   pub standing_filled : (numbers : X → Numbers) (limits : X → ℕ → Bool) (m : Model X S) (i mat : ℕ) (w : Row X S) → Vacant m i →
-      All (λ (r : FullRow X S). fits (OfMat mat) r.entry ≡ false) m.rows → limits w.kind m.terms.longest ≡ true →
+      AllByRecursion (λ (r : FullRow X S). fits (OfMat mat) r.entry ≡ false) m.rows → limits w.kind m.terms.longest ≡ true →
       Passes numbers (blocking m.terms.longest) (channels m.rows ++ w.kind ∷ []) → Standing numbers limits m → Standing numbers limits (filled m i mat w)
   standing_filled numbers limits m i mat w (r, at, free) new lim pass h =
       let q : FullRow X S = record { entry = record { mat = mat; serial = m.serials + 1; phase = Held }; row = w } in

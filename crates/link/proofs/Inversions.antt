@@ -2,7 +2,7 @@
 use Rattle.std.proofs.Common.{◌≡◌, ℕ, suc, ◌≤◌, Bool, true, false, cond, ◌&&◌, List, [], ◌∷◌, is_some, Some, None, Ok, Err, Option, Result, sym, refl, arith}
 use Rattle.std.proofs.lemmas.Bool.{true≢false, and_parts, leb-true}
 use Rattle.std.specs.Option.{option_map}
-use Rattle.std.specs.List.{AllByRecursion as All}
+use Rattle.std.specs.List.{AllByRecursion}
 use Rattle.link.specs.declared.refusals.Refusal.{Refusal}
 use Rattle.link.specs.declared.state.Sought.TheVariants.{OfMat}
 use Rattle.link.specs.Model.{FullRow, Model, find}
@@ -42,13 +42,13 @@ none_cases false None h = (refl, refl)
 none_cases false (Some j) h = absurd (true≢false h)
 
 -- where a search finds none, none passes
-pub none_passes : {X : Type 0} (P : X → Bool) (xs : List X) → is_some (first P xs) ≡ false → All (λ x. P x ≡ false) xs
+pub none_passes : {X : Type 0} (P : X → Bool) (xs : List X) → is_some (first P xs) ≡ false → AllByRecursion (λ x. P x ≡ false) xs
 none_passes P [] h = tt
 none_passes P (x ∷ xs) h = let q = none_cases (P x) (first P xs) h in (q.0, none_passes P xs q.1)
 
 -- a hold that comes to the verdict is for a mat that no counted row has
 pub hold_new : {X S : Type 0} (limits : X → ℕ → Bool) (m : Model X S) (mat : ℕ) (k : X) → hold_cause limits m mat k ≡ None →
-    All (λ (r : FullRow X S). fits (OfMat mat) r.entry ≡ false) m.rows
+    AllByRecursion (λ (r : FullRow X S). fits (OfMat mat) r.entry ≡ false) m.rows
 hold_new limits m mat k h =
     let a = (unless_cause m.terms.shut _ _ h).1 in
     let b = (else_cause (is_mat_lem mat && limits k m.terms.longest) _ _ a).1 in

@@ -3,7 +3,7 @@ use Rattle.std.proofs.Common.{◌≡◌, ℕ, ◌+◌, ◌<◌, ◌≤◌, Bool,
 use mathlib.Core.List.{map-append}
 use Rattle.std.proofs.ByRecursion.{All-append, All-map, All-weaker}
 use Rattle.std.proofs.lemmas.Bool.{and_from, and_parts, cases_eq, cond-true, cond-false, eq-eqb, ne_eqb, le-leb, leb-true, ltb-true, lt-ltb}
-use Rattle.std.specs.List.{slice_get, AllByRecursion as All}
+use Rattle.std.specs.List.{slice_get, AllByRecursion}
 use Rattle.std.specs.Option.{option_map}
 use Rattle.std.specs.List.Sorted.{IsPermutation}
 use Rattle.traffic.specs.Curves.{Numbers}
@@ -64,7 +64,7 @@ module _ {X : Type 0} (numbers : X → Numbers) where
 
     -- a packet joins: those of its mat that wait are due no later and were offered before
     pub lined_accepts : (own : ℕ) (air : Option Air) (p : Packet) (ps qs : List Packet) (l : List Begun) → p.mat ≡ own → p.due ≡ clock_of hs + allowance_of numbers own hs → IsPermutation (p ∷ ps) qs →
-        All (λ q. (q.mat ≡ own → q.due ≤ p.due) × (q.count < p.count)) ps → Lined mat hs air ps l → Lined mat (accepts own ∷ hs) air qs l
+        AllByRecursion (λ q. (q.mat ≡ own → q.due ≤ p.due) × (q.count < p.count)) ps → Lined mat hs air ps l → Lined mat (accepts own ∷ hs) air qs l
     lined_accepts own air p ps qs l is due sh before h = elim (cases_eq own mat) [
       | inr differs ↦
           let same = cond-false (eqb own mat) (dues_of numbers mat hs ++ (clock_of hs + allowance_of numbers mat hs) ∷ []) (dues_of numbers mat hs) (ne_eqb own mat differs) in
@@ -72,7 +72,7 @@ module _ {X : Type 0} (numbers : X → Numbers) where
       | inl same ↦
           let more = cond-true (eqb own mat) (dues_of numbers mat hs ++ (clock_of hs + allowance_of numbers mat hs) ∷ []) (dues_of numbers mat hs) (eq-eqb own mat same) in
           let here : clock_of hs + allowance_of numbers mat hs ≡ p.due = ap (λ m. clock_of hs + allowance_of numbers m hs) (sym same) ∙ sym due in
-          let each : All (λ x. (leb x.0 p.due && ltb x.1 p.count) ≡ true) h.queue =
+          let each : AllByRecursion (λ x. (leb x.0 p.due && ltb x.1 p.count) ≡ true) h.queue =
           waits_each mat ps h.queue (λ d c. leb d p.due && ltb c p.count)
           (All-weaker _ (λ q. q.mat ≡ mat → (leb q.due p.due && ltb q.count p.count) ≡ true) (λ q b e. and_from _ _ (le-leb _ _ (b.0 (e ∙ sym same))) (lt-ltb _ _ b.1)) ps before) h.waits in
           record {
@@ -154,27 +154,27 @@ module _ {X : Type 0} (numbers : X → Numbers) where
             }
 
     -- a slot passes
-    pub lined_passes : (a : Option Air) (ps : List Packet) (l : List Begun) → Up (clock_of hs) a l → All Timely l → Lined mat hs a ps l → Lined mat (passes (option_map told a) ∷ hs) (carried_on a) ps l
+    pub lined_passes : (a : Option Air) (ps : List Packet) (l : List Begun) → Up (clock_of hs) a l → AllByRecursion Timely l → Lined mat hs a ps l → Lined mat (passes (option_map told a) ∷ hs) (carried_on a) ps l
     lined_passes None ps l u t h = lined_on (passes None ∷ hs) None ps l refl (none_ends None refl) h
     lined_passes (Some a) ps [] u t h = absurd u
     lined_passes (Some a) ps (x ∷ l) u t h = lined_sends a (ends a) ps x l refl u t.0 h
 
-    flying_ahead : (a : Option Air) (l : List Begun) (ds : List ℕ) → OnAir (clock_of hs) a l → All Timely l → Flying mat a l ds → All (λ d. clock_of hs < d) ds
-    flying_ahead None l ds o t none = subst (All (λ d. clock_of hs < d)) (sym none) tt
-    flying_ahead (Some a) l ds o t (inr (differs, none)) = subst (All (λ d. clock_of hs < d)) (sym none) tt
+    flying_ahead : (a : Option Air) (l : List Begun) (ds : List ℕ) → OnAir (clock_of hs) a l → AllByRecursion Timely l → Flying mat a l ds → AllByRecursion (λ d. clock_of hs < d) ds
+    flying_ahead None l ds o t none = subst (AllByRecursion (λ d. clock_of hs < d)) (sym none) tt
+    flying_ahead (Some a) l ds o t (inr (differs, none)) = subst (AllByRecursion (λ d. clock_of hs < d)) (sym none) tt
     flying_ahead (Some a) [] ds o t (inl (same, (d, is, due))) = absurd due
     flying_ahead (Some a) (x ∷ l) ds o t (inl (same, (d, is, due))) =
         let f = o.1 in
         let by : end x ≤ d = t.0 d (rw due (le-leb d d (omega arith))) in
-        subst (All (λ d. clock_of hs < d)) (sym is) (omega (arith, f.sent, f.unsent, f.size), tt)
+        subst (AllByRecursion (λ d. clock_of hs < d)) (sym is) (omega (arith, f.sent, f.unsent, f.size), tt)
 
     -- each accepted packet of the mat has ended in time, or its due slot is ahead
-    pub lined_reads : (a : Option Air) (ps : List Packet) (l : List Begun) → OnAir (clock_of hs) a l → All Timely l → All (λ p. clock_of hs < p.due) ps → Lined mat hs a ps l →
+    pub lined_reads : (a : Option Air) (ps : List Packet) (l : List Begun) → OnAir (clock_of hs) a l → AllByRecursion Timely l → AllByRecursion (λ p. clock_of hs < p.due) ps → Lined mat hs a ps l →
         (n due : ℕ) → slice_get (dues_of numbers mat hs) n ≡ Some due → ((end : ℕ) × (slice_get (ends_of mat hs) n ≡ Some end) × (end ≤ due)) ⊎ (clock_of hs < due)
     lined_reads a ps l o t early h n due at_n =
-        let queued : All (λ x. ltb (clock_of hs) x.0 ≡ true) h.queue =
+        let queued : AllByRecursion (λ x. ltb (clock_of hs) x.0 ≡ true) h.queue =
         waits_each mat ps h.queue (λ d c. ltb (clock_of hs) d) (All-weaker _ (λ p. p.mat ≡ mat → ltb (clock_of hs) p.due ≡ true) (λ p b e. lt-ltb _ _ b) ps early) h.waits in
-        let later : All (λ d. clock_of hs < d) (h.flying ++ dues_in h.queue) =
+        let later : AllByRecursion (λ d. clock_of hs < d) (h.flying ++ dues_in h.queue) =
         All-append (λ d. clock_of hs < d) h.flying (dues_in h.queue) (flying_ahead a l h.flying o t h.flies)
         (All-map (λ d. clock_of hs < d) (λ (x : ℕ × ℕ). x.0) h.queue (All-weaker _ (λ x. clock_of hs < x.0) (λ x b. ltb-true _ _ b) h.queue queued)) in
         read_off (clock_of hs) h.done (h.flying ++ dues_in h.queue) (ends_of mat hs) h.ended later n due (subst (λ ds. slice_get ds n ≡ Some due) h.dues at_n)

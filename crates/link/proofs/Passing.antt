@@ -3,7 +3,7 @@ use Rattle.std.proofs.Common.{◌≡◌, ℕ, ◌+◌, ◌<◌, ◌≤◌, Bool,
 use Rattle.std.proofs.ByRecursion.{All-map, All-weaker}
 use Rattle.std.proofs.lemmas.Bool.{cond-true, cond-false}
 use Rattle.std.specs.Option.{option_map}
-use Rattle.std.specs.List.{AllByRecursion as All}
+use Rattle.std.specs.List.{AllByRecursion}
 use Rattle.traffic.specs.Arrivals.{Steps}
 use Rattle.traffic.specs.Curves.{Numbers}
 use Rattle.schedule.specs.Core.{State, state}
@@ -34,7 +34,7 @@ module _ {X S : Type 0} (numbers : X → Numbers) (steps : X → Steps S) (p : �
 
     -- whether quiet or not
     sends_slot : (q : ℕ) (es : List (Entry X S)) → Ledger numbers steps p (earliest_first numbers steps p) q after_slot es → q + busy_slots (passes (option_map told a.air) ∷ hs) ≡ n.clock + 1 →
-        Tracks a.rows es → All (Allowed numbers hs) a.rows → All (Packed numbers hs a.rows n.clock n.offers) a.waiting → Then numbers steps p hs (passes (option_map told a.air)) (passed a)
+        Tracks a.rows es → AllByRecursion (Allowed numbers hs) a.rows → AllByRecursion (Packed numbers hs a.rows n.clock n.offers) a.waiting → Then numbers steps p hs (passes (option_map told a.air)) (passed a)
     unfolding after_slot
     sends_slot q es ledger busy tracks allowed packed = record {
       longest = ap (λ t. t.longest) st.terms ∙ s.longest;
@@ -61,8 +61,8 @@ module _ {X S : Type 0} (numbers : X → Numbers) (steps : X → Steps S) (p : �
     sends_busy rows busy some =
         sends_slot s.q s.entries (ledger_tick numbers steps p (earliest_first numbers steps p) s.q s.sent after_slot s.entries st.tick some s.ledger)
         (omega (arith, s.busy, cond-false (is_quiet (option_map told a.air)) 0 (busy_slots hs + 1) busy))
-        (subst (λ rs. Tracks rs s.entries) (sym rows) s.tracks) (subst (All (Allowed numbers hs)) (sym rows) s.allowed)
-        (subst (λ rs. All (Packed numbers hs rs n.clock n.offers) a.waiting) (sym rows) (st.fewer (Packed numbers hs n.rows n.clock n.offers) s.packed))
+        (subst (λ rs. Tracks rs s.entries) (sym rows) s.tracks) (subst (AllByRecursion (Allowed numbers hs)) (sym rows) s.allowed)
+        (subst (λ rs. AllByRecursion (Packed numbers hs rs n.clock n.offers) a.waiting) (sym rows) (st.fewer (Packed numbers hs n.rows n.clock n.offers) s.packed))
 
     sends_quiet : (limits : X → ℕ → Bool) → Standing numbers limits (passed a) → a.rows ≡ map (on_entry (moved Quiet)) n.rows → n.waiting ≡ [] → is_quiet (option_map told a.air) ≡ true → ahead timed s.sent ≡ 0 →
         Then numbers steps p hs (passes (option_map told a.air)) (passed a)
@@ -74,8 +74,8 @@ module _ {X S : Type 0} (numbers : X → Numbers) (steps : X → Steps S) (p : �
         (ledger_quiet_among numbers steps p (earliest_first numbers steps p) s.q s.sent after_slot s.entries rest.stay rest.each
         (served numbers steps p hs limits (passed a) rest.stay (ap (λ t. t.longest) st.terms ∙ s.longest) stand tracks) st.tick none s.ledger)
         (omega (arith, s.clock, cond-true (is_quiet (option_map told a.air)) 0 (busy_slots hs + 1) calm)) tracks
-        (subst (All (Allowed numbers hs)) (sym rows) (All-map (Allowed numbers hs) (on_entry (moved Quiet)) n.rows (All-weaker _ _ (λ r h c. h (fading_phase r.entry.phase Quiet (λ e. let z : ◌≡◌ {A = ℕ} 0 1 = cc in omega arith) c)) n.rows s.allowed)))
-        (st.fewer (Packed numbers hs a.rows n.clock n.offers) (subst (All (Packed numbers hs a.rows n.clock n.offers)) (sym empty) tt))
+        (subst (AllByRecursion (Allowed numbers hs)) (sym rows) (All-map (Allowed numbers hs) (on_entry (moved Quiet)) n.rows (All-weaker _ _ (λ r h c. h (fading_phase r.entry.phase Quiet (λ e. let z : ◌≡◌ {A = ℕ} 0 1 = cc in omega arith) c)) n.rows s.allowed)))
+        (st.fewer (Packed numbers hs a.rows n.clock n.offers) (subst (AllByRecursion (Packed numbers hs a.rows n.clock n.offers)) (sym empty) tt))
 
   pub sends_passes : (limits : X → ℕ → Bool) (n a : Model X S) → Begins n.air n a → Standing numbers limits (passed a) → Now numbers steps p hs n → Then numbers steps p hs (passes (option_map told a.air)) (passed a)
   sends_passes limits n a b stand s = go st.rests

@@ -1,16 +1,16 @@
 -- One place of a list changed: what holds of each or of some element.
 use Rattle.std.proofs.Common.{◌≡◌, ℕ, zero, suc, List, [], ◌∷◌, set, Some, sym, subst, inl, inr, arith}
-use Rattle.std.specs.List.{slice_get, AllByRecursion as All}
+use Rattle.std.specs.List.{slice_get, AllByRecursion}
 use Rattle.schedule.specs.Schedules.{Any}
 use Rattle.link.specs.Rows.{changed}
 
 module _ {X : Type 0} (P : X → Type 0) where
-  pub all_nth : (xs : List X) (i : ℕ) (x : X) → slice_get xs i ≡ Some x → All P xs → P x
+  pub all_nth : (xs : List X) (i : ℕ) (x : X) → slice_get xs i ≡ Some x → AllByRecursion P xs → P x
   all_nth [] i x h a = let z : ◌≡◌ {A = ℕ} 0 1 = cc in absurd (omega arith)
   all_nth (y ∷ xs) zero x h a = let is : y ≡ x = cc in subst P is a.0
   all_nth (y ∷ xs) (suc i) x h a = all_nth xs i x h a.1
 
-  pub all_changed : (f : X → X) (xs : List X) (i : ℕ) (x : X) → slice_get xs i ≡ Some x → P (f x) → All P xs → All P (changed f i xs)
+  pub all_changed : (f : X → X) (xs : List X) (i : ℕ) (x : X) → slice_get xs i ≡ Some x → P (f x) → AllByRecursion P xs → AllByRecursion P (changed f i xs)
   all_changed f [] i x h p a = tt
   all_changed f (y ∷ xs) zero x h p a = let is : y ≡ x = cc in (subst (λ z. P (f z)) (sym is) p, a.1)
   all_changed f (y ∷ xs) (suc i) x h p a = (a.0, all_changed f xs i x h p a.1)
@@ -36,7 +36,7 @@ module _ {X : Type 0} (P : X → Type 0) where
   any_set (z ∷ xs) (suc i) x y h g (inl p) = inl p
   any_set (z ∷ xs) (suc i) x y h g (inr a) = inr (any_set xs i x y h g a)
 
-  pub all_set : (xs : List X) (i : ℕ) (y : X) → P y → All P xs → All P (set xs i y)
+  pub all_set : (xs : List X) (i : ℕ) (y : X) → P y → AllByRecursion P xs → AllByRecursion P (set xs i y)
   all_set [] i y p a = tt
   all_set (x ∷ xs) zero y p a = (p, a.1)
   all_set (x ∷ xs) (suc i) y p a = (a.0, all_set xs i y p a.1)

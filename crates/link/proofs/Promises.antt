@@ -2,7 +2,7 @@
 use Rattle.std.proofs.Common.{◌≡◌, ℕ, ◌+◌, ◌-◌, ◌*◌, ◌<◌, ◌≤◌, Bool, true, ◌⊎◌, List, [], ◌∷◌, map, take, Some, sym, refl, ap, ◌∙◌, subst, inl, inr, arith}
 use Rattle.std.proofs.lemmas.Nat.{le-div}
 use Rattle.std.proofs.lemmas.Bool.{true≢false, cases_eq, cases_lt, le-leb}
-use Rattle.std.specs.List.{slice_get, AllByRecursion as All}
+use Rattle.std.specs.List.{slice_get, AllByRecursion}
 use Rattle.traffic.specs.Arrivals.{Steps}
 use Rattle.traffic.specs.Curves.{Numbers}
 use Rattle.traffic.specs.Laws.{TrafficLaws}
@@ -37,7 +37,7 @@ module _ {X S : Type 0} where
   tracks_blank (w ∷ ws) = free refl (tracks_blank ws)
 
 module _ {X S : Type 0} (numbers : X → Numbers) where
-  allowed_blank : (ws : List (Row X S)) → All (Allowed numbers []) (map (λ w. record { entry = blank; row = w }) ws)
+  allowed_blank : (ws : List (Row X S)) → AllByRecursion (Allowed numbers []) (map (λ w. record { entry = blank; row = w }) ws)
   allowed_blank [] = tt
   allowed_blank (w ∷ ws) = (λ c. absurd (true≢false (sym c)), allowed_blank ws)
 
@@ -65,13 +65,13 @@ module _ {X S : Type 0} (numbers : X → Numbers) where
 
     module _ (p : ℕ) (hs : List (Happening X)) (n : Model X S) (s : Sends numbers steps p hs n) where
       -- every waiting packet is due in a slot to come
-      waiting_ahead : All (λ x. clock_of hs < x.due) n.waiting
+      waiting_ahead : AllByRecursion (λ x. clock_of hs < x.due) n.waiting
       waiting_ahead =
           let timely = ledger_in_time numbers steps p (earliest_first numbers steps p) s.q s.sent s.entries s.ledger in
           let long = waiting_positive s.sent s.ledger.kept.sound in
           all_zip _ _ (λ x. clock_of hs < x.due) (λ x t l. omega (arith, t x.due (le-leb x.due x.due (omega arith)), s.clock, s.passed_clock)) n.waiting
-          (all_of_map (job s.since) _ n.waiting (all_back _ (bulk_jobs s.bulk_since n.bulk) (map (job s.since) n.waiting) (subst (All _) s.waiting timely)))
-          (all_of_map (job s.since) (λ j. 0 < j.slots) n.waiting (all_back (λ j. 0 < j.slots) (bulk_jobs s.bulk_since n.bulk) (map (job s.since) n.waiting) (subst (All (λ j. 0 < j.slots)) s.waiting long)))
+          (all_of_map (job s.since) _ n.waiting (all_back _ (bulk_jobs s.bulk_since n.bulk) (map (job s.since) n.waiting) (subst (AllByRecursion _) s.waiting timely)))
+          (all_of_map (job s.since) (λ j. 0 < j.slots) n.waiting (all_back (λ j. 0 < j.slots) (bulk_jobs s.bulk_since n.bulk) (map (job s.since) n.waiting) (subst (AllByRecursion (λ j. 0 < j.slots)) s.waiting long)))
 
       on_time : OnTime numbers hs
       on_time mat i due at_i = elim (cases_eq mat 0) [

@@ -1,6 +1,6 @@
 -- The waiting packets of one mat, as a queue in the order of their offers: one joins at its end, and its first is the first to go.
 use Rattle.std.proofs.Common.{◌≡◌, ℕ, zero, suc, ◌+◌, ◌<◌, ◌≤◌, Bool, true, false, cond, ◌&&◌, ◌||◌, eqb, ltb, leb, ◌⊎◌, List, [], ◌∷◌, ◌++◌, Some, sym, refl, ◌∙◌, ap₂, inl, inr, arith}
-use Rattle.std.specs.List.{slice_get, AllZip, AllByRecursion as All}
+use Rattle.std.specs.List.{slice_get, AllZip, AllByRecursion}
 use Rattle.std.specs.List.Sorted.{IsPermutation}
 use Rattle.std.proofs.lemmas.List.Elements.{AllZip-push}
 use Rattle.std.proofs.ByRecursion.{All-from_get_or, All-push, All-weaker}
@@ -23,13 +23,13 @@ Waits mat ps queue = (g : ℕ → ℕ → ℕ) → total (weight mat g) ps ≡ t
 -- due slots do not fall, and offer counts rise
 abbrev pub Ordered : List (ℕ × ℕ) → Type 0
 Ordered [] = Unit {0}
-Ordered (x ∷ xs) = All (λ y. (x.0 ≤ y.0) × (x.1 < y.1)) xs × Ordered xs
+Ordered (x ∷ xs) = AllByRecursion (λ y. (x.0 ≤ y.0) × (x.1 < y.1)) xs × Ordered xs
 
 -- as many ends as due slots, each end by its due slot
 abbrev pub InTime : List ℕ → List ℕ → Type 0
 InTime dues ends = AllZip (λ due end. end ≤ due) dues ends
 
-pub ordered_push : (queue : List (ℕ × ℕ)) (d c : ℕ) → Ordered queue → All (λ y. (y.0 ≤ d) × (y.1 < c)) queue → Ordered (queue ++ (d, c) ∷ [])
+pub ordered_push : (queue : List (ℕ × ℕ)) (d c : ℕ) → Ordered queue → AllByRecursion (λ y. (y.0 ≤ d) × (y.1 < c)) queue → Ordered (queue ++ (d, c) ∷ [])
 ordered_push [] d c o all = (tt, tt)
 ordered_push (x ∷ xs) d c o all = (All-push (λ y. (x.0 ≤ y.0) × (x.1 < y.1)) xs (d, c) o.0 all.0, ordered_push xs d c o.1 all.1)
 
@@ -37,13 +37,13 @@ pub in_time_push : (ds es : List ℕ) (d e : ℕ) → InTime ds es → e ≤ d �
 in_time_push ds es d e h le = AllZip-push (λ due end. end ≤ due) ds es d e h le
 
 -- the due slots past the ends are ahead
-ahead : (s : ℕ) (later : List ℕ) → All (λ d. s < d) later → (n due : ℕ) → slice_get later n ≡ Some due → s < due
+ahead : (s : ℕ) (later : List ℕ) → AllByRecursion (λ d. s < d) later → (n due : ℕ) → slice_get later n ≡ Some due → s < due
 ahead s [] all n due h = let z : ◌≡◌ {A = ℕ} 0 1 = cc in absurd (omega arith)
 ahead s (d ∷ later) all zero due h = let is : d ≡ due = cc in omega arith
 ahead s (d ∷ later) all (suc n) due h = ahead s later all.1 n due h
 
 -- each due slot has its end in time, or is ahead
-pub read_off : (s : ℕ) (ds later es : List ℕ) → InTime ds es → All (λ d. s < d) later → (n due : ℕ) → slice_get (ds ++ later) n ≡ Some due →
+pub read_off : (s : ℕ) (ds later es : List ℕ) → InTime ds es → AllByRecursion (λ d. s < d) later → (n due : ℕ) → slice_get (ds ++ later) n ≡ Some due →
     ((end : ℕ) × (slice_get es n ≡ Some end) × (end ≤ due)) ⊎ (s < due)
 read_off s [] later [] t all n due h = inr (ahead s later all n due h)
 read_off s [] later (e ∷ es) t all n due h = absurd t
@@ -96,8 +96,8 @@ module _ (mat : ℕ) where
     lighter same is waits g = omega (arith, total-shuffled (weight mat g) ps (p ∷ qs) same, own p is g, waits g)
 
   -- a test that each packet of the mat passes, each of the queue passes
-  pub waits_each : (ps : List Packet) (queue : List (ℕ × ℕ)) (P : ℕ → ℕ → Bool) → All (λ p. p.mat ≡ mat → P p.due p.count ≡ true) ps →
-      Waits mat ps queue → All (λ x. P x.0 x.1 ≡ true) queue
+  pub waits_each : (ps : List Packet) (queue : List (ℕ × ℕ)) (P : ℕ → ℕ → Bool) → AllByRecursion (λ p. p.mat ≡ mat → P p.due p.count ≡ true) ps →
+      Waits mat ps queue → AllByRecursion (λ x. P x.0 x.1 ≡ true) queue
   waits_each ps queue P each waits =
       let fails : ℕ → ℕ → ℕ = λ d c. failing (P d c) in
       let light = All-weaker (λ p. p.mat ≡ mat → P p.due p.count ≡ true) (λ p. weight mat fails p ≡ 0) (λ p passes. grind (arith, nat_tests)) ps each in
@@ -108,7 +108,7 @@ module _ (mat : ℕ) where
     -- the first of all that wait has neither a later due slot nor, among equal ones, a larger count than what heads the queue
     no_later : (d c : ℕ) (rest : List (ℕ × ℕ)) → First packet_before p ps → p.mat ≡ mat → Waits mat ps ((d, c) ∷ rest) → (p.due ≤ d) × (p.due ≡ d → p.count ≤ c)
     no_later d c rest first is waits =
-        let none_before : All (λ y. packet_before y p ≡ false) ps = All-from_get_or (λ y. packet_before y p ≡ false) ps p (λ k l. first k p l) in
+        let none_before : AllByRecursion (λ y. packet_before y p ≡ false) ps = All-from_get_or (λ y. packet_before y p ≡ false) ps p (λ k l. first k p l) in
         let each = All-weaker (λ y. packet_before y p ≡ false) (λ y. y.mat ≡ mat → not_before p.due p.count y.due y.count ≡ true) (λ y h e. first_reads y p h (e ∙ sym is)) ps none_before in
         not_before_reads p.due p.count d c (waits_each ps ((d, c) ∷ rest) (not_before p.due p.count) each waits).0
 

@@ -2,7 +2,7 @@
 use Rattle.std.proofs.Common.{◌≡◌, ℕ, ◌+◌, ◌*◌, ◌<◌, ◌≤◌, Bool, true, false, eqb, leb, List, [], ◌∷◌, ◌++◌, map, set, Some, None, sym, refl, ap, ◌∙◌, subst, arith}
 use Rattle.std.proofs.ByRecursion.{All-weaker}
 use Rattle.std.proofs.lemmas.Bool.{true≢false, and_parts, and_from, cond-true, cond-false, eq-eqb, ne_eqb, leb-true}
-use Rattle.std.specs.List.{slice_get, AllByRecursion as All}
+use Rattle.std.specs.List.{slice_get, AllByRecursion}
 use Rattle.traffic.specs.Arrivals.{Steps}
 use Rattle.traffic.specs.Curves.{Numbers}
 use Rattle.traffic.specs.Laws.{CurveLaws, TrafficLaws}
@@ -90,8 +90,8 @@ module _ {X S : Type 0} (numbers : X → Numbers) where
     pub waiting : sent.waiting ≡ waiting_jobs since bulk_since n.waiting n.bulk
     pub air : OnAir sent.clock n.air sent.log
     pub tracks : Tracks n.rows entries
-    pub allowed : All (Allowed hs) n.rows
-    pub packed : All (Packed hs n.rows n.clock n.offers) n.waiting
+    pub allowed : AllByRecursion (Allowed hs) n.rows
+    pub packed : AllByRecursion (Packed hs n.rows n.clock n.offers) n.waiting
     pub no_dues : dues_of numbers 0 hs ≡ []
     pub lined : (mat : ℕ) → 1 ≤ mat → Lined numbers mat hs n.air n.waiting sent.log
 
@@ -138,7 +138,7 @@ module _ {X S : Type 0} (numbers : X → Numbers) where
         }
 
     -- one row moves, and with it the channels
-    sends_rows : (n : Model X S) (rows : List (FullRow X S)) (es : List (Entry X S)) (s : Now n) → Ledger numbers steps p (earliest_first numbers steps p) s.q s.sent es → Tracks rows es → All (Allowed hs) rows →
+    sends_rows : (n : Model X S) (rows : List (FullRow X S)) (es : List (Entry X S)) (s : Now n) → Ledger numbers steps p (earliest_first numbers steps p) s.q s.sent es → Tracks rows es → AllByRecursion (Allowed hs) rows →
         ((mat : ℕ) → Any (Sender mat) n.rows → Any (Sender mat) rows) → Then other (with_rows n rows)
     sends_rows n rows es s ledger tracks allowed keep = record {
       longest = s.longest;

@@ -2,7 +2,7 @@
 use Rattle.std.proofs.Common.{◌≡◌, ℕ, Bool, true, false, leb, List, [], ◌∷◌, map, take, Some, None, Option, sym, refl, subst, inl, inr, arith}
 use Rattle.std.proofs.lemmas.Bool.{true≢false, and_parts, not-false, leb-true}
 use Rattle.std.proofs.lemmas.List.{length-map, length-take}
-use Rattle.std.specs.List.{AllByRecursion as All}
+use Rattle.std.specs.List.{AllByRecursion}
 use Rattle.traffic.specs.Arrivals.{Steps}
 use Rattle.traffic.specs.Curves.{Numbers}
 use Rattle.traffic.specs.declared.Row.{Row}
@@ -63,7 +63,7 @@ module _ {X S : Type 0} (numbers : X → Numbers) (limits : X → ℕ → Bool) 
   standing_change steps n o h (slot_passes a b is) s =
       same (passed a) o is (milder a (passed a) (refl, refl, fades_same a.rows) (begins_stands n.air n a b s))
 
-  differs : (v : Row X S) (ws : List (Row X S)) → All (Differ (record { entry = blank; row = v })) (map (λ w. record { entry = blank; row = w }) ws)
+  differs : (v : Row X S) (ws : List (Row X S)) → AllByRecursion (Differ (record { entry = blank; row = v })) (map (λ w. record { entry = blank; row = w }) ws)
   differs v [] = tt
   differs v (w ∷ ws) = (λ a b. absurd (true≢false (sym a)), differs v ws)
 
@@ -71,7 +71,7 @@ module _ {X S : Type 0} (numbers : X → Numbers) (limits : X → ℕ → Bool) 
   apart_blank [] = tt
   apart_blank (w ∷ ws) = (differs w ws, apart_blank ws)
 
-  numbered_blank : (ws : List (Row X S)) → All (Numbered 0) (map (λ w. record { entry = blank; row = w }) ws)
+  numbered_blank : (ws : List (Row X S)) → AllByRecursion (Numbered 0) (map (λ w. record { entry = blank; row = w }) ws)
   numbered_blank [] = tt
   numbered_blank (w ∷ ws) = (λ c. absurd (true≢false (sym c)), numbered_blank ws)
 
@@ -98,6 +98,6 @@ module _ {X S : Type 0} (numbers : X → Numbers) (limits : X → ℕ → Bool) 
         in_range = in_range_opened name longest rows places;
         apart = apart_blank (take 32 rows);
         numbered = numbered_blank (take 32 rows);
-        within = subst (λ (ks : List X). All (λ k. limits k longest ≡ true) ks) (sym none) tt;
+        within = subst (λ (ks : List X). AllByRecursion (λ k. limits k longest ≡ true) ks) (sym none) tt;
         passing = subst (λ (ks : List X). Passes numbers (blocking longest) ks) (sym none) (record { works_fit = omega arith; demand_fits = λ t h. absurd (omega arith) });
       }

@@ -4,7 +4,7 @@ use Rattle.std.proofs.ByRecursion.{All-append, All-from_get_or, All-map, all_shu
 use Rattle.std.proofs.lemmas.List.Sorted.{IsPermutation-refl}
 use Rattle.std.proofs.lemmas.Bool.{ne_eqb, and_left, and_right}
 use Rattle.std.specs.Option.{option_map}
-use Rattle.std.specs.List.{AllByRecursion as All}
+use Rattle.std.specs.List.{AllByRecursion}
 use Rattle.std.specs.List.Sorted.{IsPermutation}
 use Rattle.traffic.specs.Curves.{Numbers}
 use Rattle.pool.specs.Elements.{First}
@@ -39,7 +39,7 @@ module _ {X S : Type 0} (numbers : X → Numbers) (since : ℕ → ℕ) (bulk_si
     pub terms : a.terms ≡ n.terms
     pub clock : a.clock ≡ n.clock
     pub offers : a.offers ≡ n.offers
-    pub fewer : (P : Packet → Type 0) → All P n.waiting → All P a.waiting
+    pub fewer : (P : Packet → Type 0) → AllByRecursion P n.waiting → AllByRecursion P a.waiting
     pub lined : (mat : ℕ) (hs : List (Happening X)) → 1 ≤ mat → Lined numbers mat hs n.air n.waiting l → Lined numbers mat hs a.air a.waiting log
 
   -- Something is on the air and stays on.
@@ -65,7 +65,7 @@ module _ {X S : Type 0} (numbers : X → Numbers) (since : ℕ → ℕ) (bulk_si
 
   -- Nothing is on the air, and the first waiting packet goes on.
   loads : (n : Model X S) (s : ℕ) (w : List Job) (l : List Begun) (p : Packet) (qs : List Packet) → n.air ≡ None → OnAir s None l → w ≡ waiting_jobs since bulk_since n.waiting n.bulk →
-      All (λ j. 0 < j.slots) w → All (λ q. 1 ≤ q.mat) n.waiting → First packet_before p n.waiting → IsPermutation n.waiting (p ∷ qs) → Starts n (going n p qs) s w l
+      AllByRecursion (λ j. 0 < j.slots) w → AllByRecursion (λ q. 1 ≤ q.mat) n.waiting → First packet_before p n.waiting → IsPermutation n.waiting (p ∷ qs) → Starts n (going n p qs) s w l
   loads n s w l p qs off o e pos named first sh =
       let j : Job = job since p in
       let rest : List Job = waiting_jobs since bulk_since qs n.bulk in
@@ -95,16 +95,16 @@ module _ {X S : Type 0} (numbers : X → Numbers) (since : ℕ → ℕ) (bulk_si
         lined = λ mat hs o h. lined_goes numbers mat hs p n.waiting qs (record { job = j; start = s }) l first sh refl (subst (λ (b : Option Air). Lined numbers mat hs b n.waiting l) off h);
       }
     where
-      bulk_after : (b : Option Bulk) → All (λ k. earliest k (job since p) ≡ false) (bulk_jobs bulk_since b)
+      bulk_after : (b : Option Bulk) → AllByRecursion (λ k. earliest k (job since p) ≡ false) (bulk_jobs bulk_since b)
       bulk_after None = tt
       bulk_after (Some b) = (refl, tt)
 
-      none_before : All (λ q. packet_before q p ≡ false) qs
+      none_before : AllByRecursion (λ q. packet_before q p ≡ false) qs
       none_before = (all_shuffled (λ q. packet_before q p ≡ false) n.waiting (p ∷ qs) sh (All-from_get_or (λ q. packet_before q p ≡ false) n.waiting p (λ k b. first k p b))).1
 
   -- Nothing is on the air and nothing waits: the slot is quiet, and bulk goes on if there is any.
   rests_with : (n : Model X S) (s : ℕ) (l : List Begun) (b : Option Bulk) → n.air ≡ None → OnAir s None l → n.waiting ≡ [] → n.bulk ≡ b →
-      All (λ j. 0 < j.slots) (bulk_jobs bulk_since b) → Starts n (quiet n) s (bulk_jobs bulk_since b) l
+      AllByRecursion (λ j. 0 < j.slots) (bulk_jobs bulk_since b) → Starts n (quiet n) s (bulk_jobs bulk_since b) l
   rests_with n s l None off o none is pos = record {
     jobs = [];
     log = l;
@@ -135,10 +135,10 @@ module _ {X S : Type 0} (numbers : X → Numbers) (since : ℕ → ℕ) (bulk_si
   }
 
   pub starts : (n a : Model X S) (s : ℕ) (w : List Job) (l : List Begun) (air : Option Air) → n.air ≡ air → Begins air n a → OnAir s air l → w ≡ waiting_jobs since bulk_since n.waiting n.bulk →
-      All (λ j. 0 < j.slots) w → All (λ q. 1 ≤ q.mat) n.waiting → Starts n a s w l
+      AllByRecursion (λ j. 0 < j.slots) w → AllByRecursion (λ q. 1 ≤ q.mat) n.waiting → Starts n a s w l
   starts n a s w l (Some x) on b o e pos named = subst (λ (c : Model X S). Starts n c s w l) (sym b) (goes n s w l x on o e)
   starts n a s w l None off (inr (p, first, sh, is)) o e pos named = subst (λ (c : Model X S). Starts n c s w l) (sym is) (loads n s w l p a.waiting off o e pos named first sh)
   starts n a s w l None off (inl (none, is)) o e pos named =
       let only : w ≡ bulk_jobs bulk_since n.bulk = e ∙ ap (λ ps. waiting_jobs since bulk_since ps n.bulk) none ∙ append-nil (bulk_jobs bulk_since n.bulk) in
       subst (λ (c : Model X S). Starts n c s w l) (sym is)
-      (subst (λ v. Starts n (quiet n) s v l) (sym only) (rests_with n s l n.bulk off o none refl (subst (All (λ j. 0 < j.slots)) only pos)))
+      (subst (λ v. Starts n (quiet n) s v l) (sym only) (rests_with n s l n.bulk off o none refl (subst (AllByRecursion (λ j. 0 < j.slots)) only pos)))

@@ -1,7 +1,7 @@
 -- The counted rows of a link as the channels of a ledger.
 use Rattle.std.proofs.Common.{◌≡◌, ℕ, zero, suc, true, false, ◌⊎◌, List, [], ◌∷◌, ◌++◌, map, set, Some, sym, refl, ap, ◌∙◌, subst, inl, inr, arith}
 use Rattle.std.proofs.lemmas.Bool.{true≢false}
-use Rattle.std.specs.List.{slice_get, AllByRecursion as All}
+use Rattle.std.specs.List.{slice_get, AllByRecursion}
 use Rattle.schedule.proofs.Ledgers.{Entry, kinds}
 use Rattle.link.specs.declared.state.Event.TheVariants.{Quiet}
 use Rattle.link.specs.declared.state.Phase.{Phase}
@@ -97,7 +97,7 @@ module _ {X S : Type 0} where
   pub record Rest (rs : List (FullRow X S)) (es : List (Entry X S)) : Type 1 where
     pub stay : List (Entry X S)
     pub tracks : Tracks (map (on_entry (moved Quiet)) rs) stay
-    pub each : (P : Entry X S → Type 0) → All P es → All P stay
+    pub each : (P : Entry X S → Type 0) → AllByRecursion P es → AllByRecursion P stay
 
   still_free : (r : FullRow X S) → counted r.entry ≡ false → counted (moved Quiet r.entry) ≡ false
   still_free r c = elim (quiet_phase r.entry.phase) [ inl n ↦ n | inr e ↦ ap counts e ∙ c ]

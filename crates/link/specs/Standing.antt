@@ -1,6 +1,6 @@
 -- What holds of a link whatever was called since its opening.
 use Rattle.std.specs.Prelude.{◌≡◌, ℕ, ◌≤◌, Bool, true, false, List, [], ◌∷◌, length, ◌≢◌}
-use Rattle.std.specs.List.{AllByRecursion as All}
+use Rattle.std.specs.List.{AllByRecursion}
 use Rattle.traffic.specs.Curves.{Numbers}
 use Rattle.verdict.specs.Demand.{blocking}
 use Rattle.verdict.specs.Passes.{Passes}
@@ -17,7 +17,7 @@ module _ {X S : Type 0} where
   -- no two counted rows have one mat, or one serial
   abbrev pub Apart : List (FullRow X S) → Type 0
   Apart [] = Unit {0}
-  Apart (r ∷ rs) = All (Differ r) rs × Apart rs
+  Apart (r ∷ rs) = AllByRecursion (Differ r) rs × Apart rs
 
   -- the serial of a counted row is among the n granted
   abbrev pub Numbered : ℕ → FullRow X S → Type 0
@@ -33,6 +33,6 @@ module _ {X S : Type 0} where
   pub record Standing (numbers : X → Numbers) (limits : X → ℕ → Bool) (m : Model X S) : Type 0 where
     pub in_range : m.terms.shut ≡ false → InRange m
     pub apart : Apart m.rows
-    pub numbered : All (Numbered m.serials) m.rows
-    pub within : All (λ k. limits k m.terms.longest ≡ true) (channels m.rows)
+    pub numbered : AllByRecursion (Numbered m.serials) m.rows
+    pub within : AllByRecursion (λ k. limits k m.terms.longest ≡ true) (channels m.rows)
     pub passing : Passes numbers (blocking m.terms.longest) (channels m.rows)

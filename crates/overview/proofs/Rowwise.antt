@@ -1,6 +1,6 @@
 -- The channels of rows that stand together, row by row.
 use Rattle.std.proofs.Common.{◌≡◌, ℕ, zero, suc, ◌+◌, ◌<◌, ◌≤◌, Bool, true, List, [], ◌∷◌, ◌++◌, length, get_or, take, sym, ap, ◌∙◌, subst, ⊎_elim, arith, take_all}
-use Rattle.std.specs.List.{AllByRecursion as All}
+use Rattle.std.specs.List.{AllByRecursion}
 use Rattle.std.proofs.lemmas.List.{take_more, map-append}
 use Rattle.std.proofs.lemmas.Bool.{cases_lt}
 use Rattle.traffic.specs.Curves.{Numbers}
@@ -24,12 +24,12 @@ module _ {K S : Type 0} (rs : List (Row K S)) where
 
 -- what holds of the channels holds of that in a row, and of those of the first rows
 module _ {K S : Type 0} (P : K → Type 0) where
-  pub kinds_hold : (rs : List (Row K S)) (i : ℕ) (r : Row K S) → i < length rs → r ≡ get_or rs i r → All P (kinds rs) → P r.kind
+  pub kinds_hold : (rs : List (Row K S)) (i : ℕ) (r : Row K S) → i < length rs → r ≡ get_or rs i r → AllByRecursion P (kinds rs) → P r.kind
   kinds_hold [] i r inside is all = absurd (omega arith)
   kinds_hold (x ∷ rs) zero r inside is all = subst (λ y. P y.kind) (sym is) all.0
   kinds_hold (x ∷ rs) (suc i) r inside is all = kinds_hold rs i r (omega arith) is all.1
 
-  pub front_holds : (rs : List (Row K S)) (i : ℕ) → All P (kinds rs) → All P (kinds (take i rs))
+  pub front_holds : (rs : List (Row K S)) (i : ℕ) → AllByRecursion P (kinds rs) → AllByRecursion P (kinds (take i rs))
   front_holds rs zero all = tt
   front_holds [] (suc i) all = tt
   front_holds (x ∷ rs) (suc i) all = (all.0, front_holds rs i all.1)

@@ -1,6 +1,6 @@
 -- The point with the least slack, point by point.
 use Rattle.std.proofs.Common.{◌≡◌, ℕ, ◌+◌, ◌-◌, ◌<◌, ◌≤◌, Bool, true, false, cond, leb, List, Some, None, Option, refl, ap, ⊎_elim, arith}
-use Rattle.std.specs.List.{AllByRecursion as All}
+use Rattle.std.specs.List.{AllByRecursion}
 use Rattle.std.proofs.lemmas.Bool.{cases_lt, leb-true, leb-false}
 use Rattle.traffic.specs.Curves.{Numbers, Rises}
 use Rattle.traffic.specs.Laws.{CurveLaws}
@@ -48,7 +48,7 @@ module _ (F : ℕ → ℕ) (p : ℕ) where
             (next.2, leaves_more q.slack (omega arith) (λ v low rise. omega (arith, best.1 v low rise)))
 
 -- the points below the horizon are enough: beyond it the demand repeats each frame
-module _ {K : Type 0} (m : K → Numbers) (p : ℕ) (ks : List K) (laws : All (λ k. CurveLaws p (m k)) ks) (few : works m ks ≤ 5040) where
+module _ {K : Type 0} (m : K → Numbers) (p : ℕ) (ks : List K) (laws : AllByRecursion (λ k. CurveLaws p (m k)) ks) (few : works m ks ≤ 5040) where
   abbrev F : ℕ → ℕ
   F = curves m ks
 

@@ -4,13 +4,13 @@ use Rattle.std.proofs.lemmas.Fmt.{decimal_injective}
 use Rattle.std.proofs.ByRecursion.{All-from_get_or}
 use Rattle.std.proofs.lemmas.List.{drop_all, drop_more, get_or-take, length-take-le}
 use Rattle.std.proofs.lemmas.Bool.{cases_lt}
-use Rattle.std.specs.List.{AllByRecursion as All}
+use Rattle.std.specs.List.{AllByRecursion}
 use Rattle.plan.specs.Lines.{fields, Number, Numbers}
 use Rattle.plan.proofs.Decimals.{decimal_lacks}
 
 -- no byte is b
 abbrev pub Without : ℕ → List ℕ → Type 0
-Without b = All (λ x. x ≡ b → ⊥)
+Without b = AllByRecursion (λ x. x ≡ b → ⊥)
 
 -- nothing, or b and more
 pub data Led (b : ℕ) : List ℕ → Type 0 where

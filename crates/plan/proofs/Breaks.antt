@@ -3,12 +3,12 @@ use Rattle.std.proofs.Common.{◌≡◌, ℕ, zero, suc, ◌-◌, ◌<◌, ◌�
 use Rattle.std.proofs.lemmas.Fmt.{decimal_injective}
 use Rattle.std.proofs.ByRecursion.{All-append}
 use Rattle.std.proofs.lemmas.List.{drop_at, length-append, length-map, length-replicate, map-append, take_at}
-use Rattle.std.specs.List.{AllByRecursion as All}
+use Rattle.std.specs.List.{AllByRecursion}
 use Rattle.plan.specs.Format.{section, FitSection}
 use Rattle.plan.specs.Lines.{Words, line, Number, Fits}
 use Rattle.plan.specs.Steps.{BrokenAt, no_count, no_entry}
 
-pub all_replicate : {X : Type 0} (P : X → Type 0) (n : ℕ) (x : X) → P x → All P (replicate n x)
+pub all_replicate : {X : Type 0} (P : X → Type 0) (n : ℕ) (x : X) → P x → AllByRecursion P (replicate n x)
 all_replicate P zero x p = tt
 all_replicate P (suc n) x p = (p, all_replicate P n x p)
 
@@ -33,7 +33,7 @@ module _ {X : Type 0} (words : X → Words) (mats : X → List ℕ) where
     pub stops : (ys : List X) (t v : List (List ℕ)) → FitSection words mats ys → section words ys ++ t ≡ front ++ v → take 1 rest ≡ take 1 v → ⊥
 
   -- the entry that follows fewer ones
-  next_entry : (ys xs : List X) (t v : List (List ℕ)) → All (Fits words mats) ys → length xs < length ys → map (λ x. line (words x)) ys ++ t ≡ map (λ x. line (words x)) xs ++ v → (y : X) × Fits words mats y × (take 1 v ≡ line (words y) ∷ [])
+  next_entry : (ys xs : List X) (t v : List (List ℕ)) → AllByRecursion (Fits words mats) ys → length xs < length ys → map (λ x. line (words x)) ys ++ t ≡ map (λ x. line (words x)) xs ++ v → (y : X) × Fits words mats y × (take 1 v ≡ line (words y) ∷ [])
   next_entry [] xs t v fit h e = absurd (omega arith)
   next_entry (y ∷ ys) [] t v fit h e = (y, fit.0, ap (take 1) (sym e))
   next_entry (y ∷ ys) (x ∷ xs) t v fit h e = next_entry ys xs t v fit.1 (omega arith) (ap (drop 1) e)

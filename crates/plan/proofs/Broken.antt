@@ -3,7 +3,7 @@ use Rattle.std.proofs.Common.{◌≡◌, ℕ, suc, ◌+◌, ◌<◌, List, [], �
 use Rattle.std.proofs.ByRecursion.{All-push}
 use Rattle.std.proofs.lemmas.List.{length_push, map_push}
 use Rattle.std.proofs.lemmas.Result.{err_from_is_err_and}
-use Rattle.std.specs.List.{AllByRecursion as All}
+use Rattle.std.specs.List.{AllByRecursion}
 use Rattle.plan.specs.Lines.{Words, line, Fits}
 use Rattle.plan.specs.Steps.{NextCount, NextEntry, BrokenAt, no_count, no_entry, Sectioned}
 use Rattle.plan.specs.declared.Fault.{Fault}
@@ -19,13 +19,13 @@ module _ {X : Type 0} (words : X → Words) (mats : X → List ℕ) where
 
   -- the entries read so far and what follows them
   pub record Entries (ls : List (List ℕ)) (k : ℕ) (xs : List X) (rest : List (List ℕ)) : Type 0 where
-    pub fit : All (Fits words mats) xs
+    pub fit : AllByRecursion (Fits words mats) xs
     pub many : length xs ≡ k
     pub split : ls ≡ map (λ x. line (words x)) xs ++ rest
 
   pub one_more_entry : {ls mid rest : List (List ℕ)} {k : ℕ} {xs ys : List X} (x : X) → Entries ls k xs mid → Fits words mats x × (mid ≡ line (words x) ∷ rest) → ys ≡ xs ++ (x ∷ []) → Entries ls (k + 1) ys rest
   one_more_entry {ls} {mid} {rest} {k} {xs} {ys} x h (fit, e) more = record {
-    fit = subst (All (Fits words mats)) (sym more) (All-push (Fits words mats) xs x h.fit fit);
+    fit = subst (AllByRecursion (Fits words mats)) (sym more) (All-push (Fits words mats) xs x h.fit fit);
     many = omega (arith, ap length more, length_push xs x, h.many);
     split = h.split ∙ ap (λ l. map line_of xs ++ l) e ∙ sym (append_assoc (map line_of xs) (line_of x ∷ []) rest) ∙ ap (λ l. l ++ rest) (sym (ap (map line_of) more ∙ map_push line_of xs x));
   }

@@ -3,7 +3,7 @@ use Rattle.std.proofs.Common.{◌≡◌, ℕ, suc, ◌+◌, ◌<◌, ◌≤◌, 
 use Rattle.std.proofs.ByRecursion.{All-from_get_or}
 use Rattle.std.proofs.lemmas.List.{drop_more, take-append-drop}
 use Rattle.std.proofs.lemmas.Bool.{cases_eq, cond-true, cond-false, eq-eqb, ne_eqb}
-use Rattle.std.specs.List.{AllByRecursion as All}
+use Rattle.std.specs.List.{AllByRecursion}
 use Rattle.plan.specs.Format.{cut, ended, onto}
 use Rattle.plan.proofs.Blanks.{Without, without_front}
 
@@ -25,24 +25,24 @@ cut_last (b ∷ []) some p = cut_at_other b [] p.0
 cut_last (b ∷ c ∷ l) some p = cut_at_other b (c ∷ l) p.0 ∙ ap (onto b) (cut_last (c ∷ l) (omega arith) p.1)
 
 -- lines without a byte 10 are cut apart again
-pub cut_ended : (ls : List (List ℕ)) → All (Without 10) ls → cut (ended ls) ≡ ls
+pub cut_ended : (ls : List (List ℕ)) → AllByRecursion (Without 10) ls → cut (ended ls) ≡ ls
 cut_ended [] p = refl
 cut_ended (l ∷ ls) p =
     ap cut (append_assoc l (10 ∷ []) (ended ls)) ∙ cut_line l (ended ls) p.0 ∙ ap (λ k. l ∷ k) (cut_ended ls p.1)
 
-pub same_from_ended : (ks ls : List (List ℕ)) → All (Without 10) ks → All (Without 10) ls → ended ks ≡ ended ls → ks ≡ ls
+pub same_from_ended : (ks ls : List (List ℕ)) → AllByRecursion (Without 10) ks → AllByRecursion (Without 10) ls → ended ks ≡ ended ls → ks ≡ ls
 same_from_ended ks ls p q e = sym (cut_ended ks p) ∙ ap cut e ∙ cut_ended ls q
 
-onto_without : (b : ℕ) (ls : List (List ℕ)) → (b ≡ 10 → ⊥) → All (Without 10) ls → All (Without 10) (onto b ls)
+onto_without : (b : ℕ) (ls : List (List ℕ)) → (b ≡ 10 → ⊥) → AllByRecursion (Without 10) ls → AllByRecursion (Without 10) (onto b ls)
 onto_without b [] other p = ((other, tt), tt)
 onto_without b (l ∷ ls) other p = ((other, p.0), p.1)
 
-pub cut_without : (bs : List ℕ) → All (Without 10) (cut bs)
+pub cut_without : (bs : List ℕ) → AllByRecursion (Without 10) (cut bs)
 cut_without [] = tt
 cut_without (b ∷ bs) =
     ⊎_elim
-    (λ e. subst (All (Without 10)) (sym (cond-true (eqb b 10) ([] ∷ cut bs) (onto b (cut bs)) (eq-eqb b 10 e))) (tt, cut_without bs))
-    (λ other. subst (All (Without 10)) (sym (cut_at_other b bs other)) (onto_without b (cut bs) other (cut_without bs)))
+    (λ e. subst (AllByRecursion (Without 10)) (sym (cond-true (eqb b 10) ([] ∷ cut bs) (onto b (cut bs)) (eq-eqb b 10 e))) (tt, cut_without bs))
+    (λ other. subst (AllByRecursion (Without 10)) (sym (cut_at_other b bs other)) (onto_without b (cut bs) other (cut_without bs)))
     (cases_eq b 10)
 
 -- a byte that does not end a line, put in front of what its lines write

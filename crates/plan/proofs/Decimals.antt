@@ -8,7 +8,7 @@ use Rattle.std.proofs.lemmas.Str.{IsUtf8-from_ascii}
 use Rattle.std.specs.Result.{OkIff, result_ok}
 use Rattle.std.specs.Str.Parse.{AllDigits, ParsesUnsigned, digits_value}
 use Rattle.std.specs.Int.{IsInRange}
-use Rattle.std.specs.List.{AllByRecursion as All}
+use Rattle.std.specs.List.{AllByRecursion}
 use Rattle.plan.specs.Lines.{Number}
 use Rattle.plan.specs.Steps.{Padded, Reads}
 
@@ -19,7 +19,7 @@ own = numerals_by_value (AllDigits 10) tells_digits
 pub digit_in_decimal : (n : ℕ) → Number n → (i : ℕ) → i < length (decimal n) → IsInRange 48 57 (get_or (decimal n) i 0)
 digit_in_decimal n small i h = digit_at (decimal n) i (decimal_is_IsNumeral n (omega arith)).0.1 h
 
-pub decimal_lacks : (n b : ℕ) → Number n → (IsInRange 48 57 b → ⊥) → All (λ x. x ≡ b → ⊥) (decimal n)
+pub decimal_lacks : (n b : ℕ) → Number n → (IsInRange 48 57 b → ⊥) → AllByRecursion (λ x. x ≡ b → ⊥) (decimal n)
 decimal_lacks n b small other =
     All-from_get_or (λ x. x ≡ b → ⊥) (decimal n) 0 (λ i h e. other (subst (IsInRange 48 57) e (digit_in_decimal n small i h)))
 

@@ -1,6 +1,6 @@
 -- Two plans with the same lines are the same.
 use Rattle.std.proofs.Common.{◌≡◌, ℕ, cond, eqb, List, [], ◌∷◌, ◌++◌, map, get_or, drop, sym, refl, ap, ◌∙◌, arith}
-use Rattle.std.specs.List.{AllByRecursion as All}
+use Rattle.std.specs.List.{AllByRecursion}
 use Rattle.traffic.specs.declared.bucket.Bucket.{Bucket}
 use Rattle.traffic.specs.declared.mixture.Mixture.{Mixture}
 use Rattle.traffic.specs.declared.mixture.Mixture.TheVariants.{First, Second}
@@ -14,7 +14,7 @@ use Rattle.plan.proofs.Breaks.{section_front}
 use Rattle.plan.proofs.Parsed.{same_from_line}
 
 -- entries whose words tell them apart are told apart by their lines
-pub same_from_lines_of : {X : Type 0} (words : X → Words) (mats : X → List ℕ) → ((x y : X) → words x ≡ words y → x ≡ y) → (xs ys : List X) → All (Fits words mats) xs → All (Fits words mats) ys → map (λ x. line (words x)) xs ≡ map (λ x. line (words x)) ys → xs ≡ ys
+pub same_from_lines_of : {X : Type 0} (words : X → Words) (mats : X → List ℕ) → ((x y : X) → words x ≡ words y → x ≡ y) → (xs ys : List X) → AllByRecursion (Fits words mats) xs → AllByRecursion (Fits words mats) ys → map (λ x. line (words x)) xs ≡ map (λ x. line (words x)) ys → xs ≡ ys
 same_from_lines_of words mats told [] [] p q e = refl
 same_from_lines_of words mats told [] (y ∷ ys) p q e = let z : ◌≡◌ {A = ℕ} 0 1 = cc in absurd (omega arith)
 same_from_lines_of words mats told (x ∷ xs) [] p q e = let z : ◌≡◌ {A = ℕ} 0 1 = cc in absurd (omega arith)

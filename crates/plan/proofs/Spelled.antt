@@ -1,7 +1,7 @@
 -- A plan that is written out is cut into its lines again.
 use Rattle.std.proofs.Common.{◌≡◌, ℕ, ◌<◌, List, [], ◌∷◌, ◌++◌, map, length, decimal, sym, ap, ◌∙◌, subst, ⊎_elim, arith}
 use Rattle.std.proofs.ByRecursion.{All-append, all-has, All-weaker, has_push}
-use Rattle.std.specs.List.{AllByRecursion as All}
+use Rattle.std.specs.List.{AllByRecursion}
 use Rattle.traffic.specs.declared.bucket.Bucket.{Bucket}
 use Rattle.traffic.specs.declared.mixture.Mixture.{Mixture}
 use Rattle.traffic.specs.declared.mixture.Mixture.TheVariants.{First, Second}
@@ -32,10 +32,10 @@ fields_unbroken (n ∷ ns) small = (
 solid_line : (w : Words) → (w.0 ≡ 10 → ⊥) → Numbers w.1 → Solid (line w)
 solid_line w letter small = ((letter, fields_unbroken w.1 small), omega arith)
 
-solid_section : {X : Type 0} (words : X → Words) (mats : X → List ℕ) → ((x : X) → (words x).0 ≡ 10 → ⊥) → (xs : List X) → FitSection words mats xs → All Solid (section words xs)
+solid_section : {X : Type 0} (words : X → Words) (mats : X → List ℕ) → ((x : X) → (words x).0 ≡ 10 → ⊥) → (xs : List X) → FitSection words mats xs → AllByRecursion Solid (section words xs)
 solid_section {X} words mats letters xs fit = (solid_decimal (length xs) fit.0, entries xs fit.1)
   where
-    entries : (xs : List X) → All (Fits words mats) xs → All Solid (map (λ x. line (words x)) xs)
+    entries : (xs : List X) → AllByRecursion (Fits words mats) xs → AllByRecursion Solid (map (λ x. line (words x)) xs)
     entries [] fits = tt
     entries (x ∷ xs) fits = (solid_line (words x) (letters x) fits.0.0, entries xs fits.1)
 
@@ -49,7 +49,7 @@ call_letter (Bulk bytes) e = omega arith
 call_letter (Ticks count) e = omega arith
 call_letter (Release m) e = omega arith
 
-solid_lines : (s : Script) → InRange s → All Solid (lines s)
+solid_lines : (s : Script) → InRange s → AllByRecursion Solid (lines s)
 solid_lines s fit =
     All-append Solid (section longest_words (s.longest ∷ [])) (section channel_words s.channels ++ section call_words s.calls)
     (solid_section longest_words (λ p. []) (λ p e. omega arith) (s.longest ∷ []) (omega arith, (((fit.longest, tt), tt), tt)))
@@ -68,7 +68,7 @@ cut_spelled bytes s fit h =
     (λ closed.
     let longer = All-append (Without 10) (cut bytes) ([] ∷ []) (cut_without bytes) (tt, tt) in
     let same = same_from_ended (cut bytes ++ ([] ∷ [])) (lines s) longer unbroken (ended_more (cut bytes) [] ∙ ap (λ b. b ++ (10 ∷ [])) (sym closed) ∙ e) in
-    let last = all-has Solid (cut bytes ++ ([] ∷ [])) [] (subst (All Solid) (sym same) solid) (has_push (cut bytes) []) in
+    let last = all-has Solid (cut bytes ++ ([] ∷ [])) [] (subst (AllByRecursion Solid) (sym same) solid) (has_push (cut bytes) []) in
     absurd (omega (arith, last.1)))
     (λ opened. same_from_ended (cut bytes) (lines s) (cut_without bytes) unbroken (sym opened ∙ e))
     (ended_cut bytes))

@@ -1,6 +1,6 @@
 -- The text of a whole plan, and a text's lines.
 use Rattle.std.specs.Prelude.{ℕ, cond, List, [], ◌∷◌, ◌++◌, map, length, vec_items, decimal, ◌==◌}
-use Rattle.std.specs.List.{flat_map, AllByRecursion as All}
+use Rattle.std.specs.List.{flat_map, AllByRecursion}
 use Rattle.plan.specs.Lines.{Words, line, longest_words, channel_words, channel_mats, call_words, call_mats, Number, Fits}
 use Rattle.plan.specs.declared.Call.{Call}
 use Rattle.plan.specs.declared.Channel.{Channel}
@@ -33,7 +33,7 @@ written s = ended (lines s)
 
 -- Entries that may stand in a section, whose count is a field too.
 abbrev pub FitSection : {X : Type 0} → (X → Words) → (X → List ℕ) → List X → Type 0
-FitSection words mats xs = Number (length xs) × All (Fits words mats) xs
+FitSection words mats xs = Number (length xs) × AllByRecursion (Fits words mats) xs
 
 -- Every number fits its field.
 pub record InRange (s : Script) : Type 0 where

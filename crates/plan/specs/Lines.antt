@@ -1,6 +1,6 @@
 -- The written form of each line of a plan: a letter and numbers.
 use Rattle.std.specs.Prelude.{ℕ, ◌^◌, ◌<◌, ◌≤◌, List, [], ◌∷◌, ◌++◌, decimal}
-use Rattle.std.specs.List.{AllByRecursion as All}
+use Rattle.std.specs.List.{AllByRecursion}
 use Rattle.traffic.specs.declared.bucket.Bucket.{Bucket}
 use Rattle.traffic.specs.declared.mixture.Mixture.{Mixture}
 use Rattle.traffic.specs.declared.mixture.Mixture.TheVariants.{First, Second}
@@ -58,8 +58,8 @@ abbrev pub Number : ℕ → Type 0
 Number n = n < 2 ^ 32
 
 abbrev pub Numbers : List ℕ → Type 0
-Numbers ns = All Number ns
+Numbers ns = AllByRecursion Number ns
 
 -- An entry that may stand on a line: its numbers fit their fields, and its mats are at most 255.
 abbrev pub Fits : {X : Type 0} → (X → Words) → (X → List ℕ) → X → Type 0
-Fits words mats x = Numbers (words x).1 × All (λ m. m ≤ 255) (mats x)
+Fits words mats x = Numbers (words x).1 × AllByRecursion (λ m. m ≤ 255) (mats x)

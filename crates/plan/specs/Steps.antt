@@ -2,7 +2,7 @@
 use Rattle.std.specs.Prelude.{◌≡◌, ℕ, suc, ◌<◌, ◌⊎◌, List, [], ◌∷◌, ◌++◌, map, length, take, Some, None, Ok, Err, vec_items, decimal, Option, Result, Vec, ◌≢◌, slice_index}
 use Rattle.std.specs.Borrow.{Bor}
 use Rattle.std.specs.declared.alloc.Global.{Global}
-use Rattle.std.specs.List.{AllByRecursion as All}
+use Rattle.std.specs.List.{AllByRecursion}
 use Rattle.plan.specs.Format.{cut, section, FitSection}
 use Rattle.plan.specs.Lines.{Words, line, Number, Fits}
 use Rattle.plan.specs.declared.Fault.{Fault}
@@ -41,7 +41,7 @@ NextEntry words mats sec num ls rest (Err NoMemory) = Unit {0}
 -- The line at which a section breaks off: there is no count, or after some entries there is none though the count asks for more.
 pub data BrokenAt {X : Type 0} (words : X → Words) (mats : X → List ℕ) (ls : List (List ℕ)) : ℕ → Type 0 where
   no_count : Lacks decimal Number ls → BrokenAt words mats ls 0
-  no_entry : (n : ℕ) (xs : List X) (rest : List (List ℕ)) → Number n → All (Fits words mats) xs → length xs < n → ls ≡ (decimal n ∷ map (λ x. line (words x)) xs) ++ rest → Lacks (λ x. line (words x)) (Fits words mats) rest → BrokenAt words mats ls (suc (length xs))
+  no_entry : (n : ℕ) (xs : List X) (rest : List (List ℕ)) → Number n → AllByRecursion (Fits words mats) xs → length xs < n → ls ≡ (decimal n ∷ map (λ x. line (words x)) xs) ++ rest → Lacks (λ x. line (words x)) (Fits words mats) rest → BrokenAt words mats ls (suc (length xs))
 
 -- The entries of a section, or the line at which it breaks off.
 abbrev pub Sectioned : {X : Type 0} → (X → Words) → (X → List ℕ) → ℕ → List (List ℕ) → List (List ℕ) → Result (Vec X Global) Fault → Type 0

@@ -1,6 +1,6 @@
 -- Bags: lists with the same elements, and a first element of a bag by an order.
 use Rattle.std.proofs.Common.{◌≡◌, ℕ, ◌<◌, Bool, true, false, cond, ◌&&◌, eqb, List, [], ◌∷◌, sym, refl, ap, subst, inl, inr, arith}
-use Rattle.std.specs.List.{AllByRecursion as All}
+use Rattle.std.specs.List.{AllByRecursion}
 use Rattle.std.specs.List.Sorted.{IsPermutation}
 use Rattle.std.specs.Cmp.{IsStrictWeakOrder}
 use Rattle.std.proofs.lemmas.Bool.{cases_Bool, cond-true, cond-false, eqb-true, eq-eqb, and_parts, and_from}
@@ -16,7 +16,7 @@ swap_two : {X : Type 0} (x y : X) (xs ys : List X) → IsPermutation xs (x ∷ y
 swap_two x y xs ys h = IsPermutation-trans xs (x ∷ y ∷ ys) (y ∷ x ∷ ys) h (IsPermutation-swap (x ∷ y ∷ ys) (y ∷ x ∷ ys) 0 1 (omega arith) (omega arith) refl)
 
 -- an element that no other goes before
-pub pick : {X : Type 0} (before : X → X → Bool) → IsStrictWeakOrder before → (x : X) (xs : List X) → (y : X) × (ys : List X) × IsPermutation (x ∷ xs) (y ∷ ys) × All (λ z. before z y ≡ false) ys
+pub pick : {X : Type 0} (before : X → X → Bool) → IsStrictWeakOrder before → (x : X) (xs : List X) → (y : X) × (ys : List X) × IsPermutation (x ∷ xs) (y ∷ ys) × AllByRecursion (λ z. before z y ≡ false) ys
 pick before o x [] = (x, [], IsPermutation-refl _, tt)
 pick {X} before o x (x' ∷ xs) =
     let (y, ys, h, least) = pick before o x' xs in

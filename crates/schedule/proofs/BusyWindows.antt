@@ -1,6 +1,6 @@
 -- The invariant of the core machine: for every down-set of the order, a busy window that accounts for all its unsent slots.
 use Rattle.std.proofs.Common.{◌≡◌, ℕ, ◌+◌, ◌-◌, ◌<◌, ◌≤◌, Bool, true, false, cond, ◌⊎◌, List, [], ◌∷◌, refl, inl, inr, arith}
-use Rattle.std.specs.List.{AllByRecursion as All}
+use Rattle.std.specs.List.{AllByRecursion}
 use Rattle.std.proofs.lemmas.Bool.{cases_lt, cases_Bool, cond-true}
 use Rattle.std.proofs.ByRecursion.{All-weaker, all_shuffled}
 use Rattle.schedule.specs.Core.{State, opened, Arrives, arrives, Tick, goes_on, begins, idles}
@@ -35,8 +35,8 @@ Covered X q m = (unsent X m ≡ 0) ⊎ Window X q m
 
 -- every channel's job that is not all sent arrived in q or later
 pub record Recent (q : ℕ) (m : State) : Type 0 where
-  pub waiting : All (λ j. timed j ≡ true → q ≤ j.arrival) m.waiting
-  pub begun : All (λ x. m.clock < end x → timed x.job ≡ true → q ≤ x.job.arrival) m.log
+  pub waiting : AllByRecursion (λ j. timed j ≡ true → q ≤ j.arrival) m.waiting
+  pub begun : AllByRecursion (λ x. m.clock < end x → timed x.job ≡ true → q ≤ x.job.arrival) m.log
 
 -- what every step keeps, where q is any slot since which the account is kept
 pub record Kept (before : Job → Job → Bool) (q : ℕ) (m : State) : Type 0 where
@@ -66,8 +66,8 @@ recent_none q m i z = record {
 -- Windows.
 
 -- where nothing of X is unsent, only the newest job can be on the air, and it is outside X
-blocker_now : (X : Job → Bool) (q s : ℕ) (l : List Begun) → All (λ x. (x.job.arrival ≤ x.start) × (x.start < s)) l → Queue l →
-    All (λ x. s < end x → timed x.job ≡ true → q ≤ x.job.arrival) l → rest X s l ≡ 0 → (left s l ≡ 0) ⊎ Any (Blocks X q s (left s l)) l
+blocker_now : (X : Job → Bool) (q s : ℕ) (l : List Begun) → AllByRecursion (λ x. (x.job.arrival ≤ x.start) × (x.start < s)) l → Queue l →
+    AllByRecursion (λ x. s < end x → timed x.job ≡ true → q ≤ x.job.arrival) l → rest X s l ≡ 0 → (left s l ≡ 0) ⊎ Any (Blocks X q s (left s l)) l
 blocker_now X q s [] b c r z = inl refl
 blocker_now X q s (x ∷ xs) b c r z =
     let e : left s xs ≡ 0 = none_left x.start s xs (omega arith) c.0 in

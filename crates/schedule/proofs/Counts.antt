@@ -1,6 +1,6 @@
 -- The slots that a state of the core machine still owes, counted for a set X of jobs, and what a slot or an arrival does to them.
 use Rattle.std.proofs.Common.{◌≡◌, ℕ, ◌+◌, ◌-◌, ◌<◌, ◌≤◌, Bool, true, false, cond, ◌&&◌, leb, List, ◌∷◌, refl, inl, inr, arith}
-use Rattle.std.specs.List.{AllByRecursion as All}
+use Rattle.std.specs.List.{AllByRecursion}
 use Rattle.std.specs.List.Sorted.{IsPermutation}
 use Rattle.std.proofs.lemmas.Bool.{cases_Bool, le-leb, both_ways, cond-true, cond-false}
 use Rattle.std.proofs.ByRecursion.{All-weaker, all_shuffled}
@@ -60,7 +60,7 @@ rest_left X s l = Sums.total-le _ _ l (Sums.all_true _ (λ x. go (X x.job) x) l)
 pub unsent_ahead : (X : Job → Bool) (m : State) → unsent X m ≤ ahead X m
 unsent_ahead X m = omega (arith, rest_left X m.clock m.log)
 
-pub none_left : (s t : ℕ) (l : List Begun) → s ≤ t → All (λ x. end x ≤ s) l → left t l ≡ 0
+pub none_left : (s t : ℕ) (l : List Begun) → s ≤ t → AllByRecursion (λ x. end x ≤ s) l → left t l ≡ 0
 none_left s t l h e = Sums.total-none _ l (All-weaker _ _ (λ x e. omega arith) l e)
 
 -- a smaller set owes less
@@ -93,13 +93,13 @@ pub record Advance (X : Job → Bool) (m n : State) : Type 0 where
   pub falls : 0 < ahead X m → ahead X n + 1 ≤ ahead X m
 
 module _ (before : Job → Job → Bool) (X : Job → Bool) (closed : Closed before X) where
-  none_waits : (j : Job) (w : List Job) → X j ≡ false → All (λ k. before k j ≡ false) w → waits X w ≡ 0
+  none_waits : (j : Job) (w : List Job) → X j ≡ false → AllByRecursion (λ k. before k j ≡ false) w → waits X w ≡ 0
   none_waits j w n h = Sums.total-none _ w (All-weaker _ _ (λ k b. elim (cases_Bool (X k)) [
     | inl y ↦ absurd (both_ways (X j) n (closed k j y b))
     | inr m ↦ cond-false (X k) k.slots 0 m
   ]) w h)
 
-  pub advance : {m n : State} → Tick before m n → All (λ j. 0 < j.slots) m.waiting → Advance X m n
+  pub advance : {m n : State} → Tick before m n → AllByRecursion (λ j. 0 < j.slots) m.waiting → Advance X m n
   advance (goes_on {s} {w} {l} h) pos = record {
     less = omega (arith, rest_falls X s (s + 1) l (omega arith));
     falls = λ p. omega (arith, Sums.total-spare (λ x. end x - (s + 1)) (λ x. end x - s) 1 l (Sums.all_true _ (λ x. omega arith) l) (Sums.any_more _ _ l (Sums.all_true _ (λ x o. omega arith) l) h));

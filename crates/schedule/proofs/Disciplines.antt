@@ -1,6 +1,6 @@
 -- What the proof of a sender asks of its waiting order, and that earliest deadline first has it.
 use Rattle.std.proofs.Common.{ℕ, ◌-◌, ◌≤◌, Bool, List, ◌∷◌, ◌++◌}
-use Rattle.std.specs.List.{AllByRecursion as All}
+use Rattle.std.specs.List.{AllByRecursion}
 use Rattle.std.specs.Cmp.{IsStrictWeakOrder}
 use Rattle.traffic.specs.Arrivals.{Steps}
 use Rattle.traffic.specs.Curves.{Numbers}
@@ -29,7 +29,7 @@ pub record Discipline {K S : Type 0} (numbers : K → Numbers) (steps : K → St
   pub raised : (e : ℕ) (xs : List K) (k k' : K) (ys : List K) → CurveLaws p (numbers k) → CurveLaws p (numbers k') → Redated (numbers k) e (numbers k') → (numbers k).allowance ≤ e →
       Serves (xs ++ k ∷ ys) → Serves (xs ++ k' ∷ ys)
   -- every waiting job, begun now, would end in time, if what came since q are offers of these channels
-  pub in_time : (ks : List K) → All (λ k. TrafficLaws (numbers k) (steps k)) ks → Serves ks → (o : Offers numbers steps ks) (q : ℕ) (m : State) →
+  pub in_time : (ks : List K) → AllByRecursion (λ k. TrafficLaws (numbers k) (steps k)) ks → Serves ks → (o : Offers numbers steps ks) (q : ℕ) (m : State) →
       Kept before q m → Each (λ j. j.slots ≤ p) m → Owned q (offered numbers steps ks o) m → WaitingInTime m
 
 abbrev pub earliest_first : {K S : Type 0} (numbers : K → Numbers) (steps : K → Steps S) (p : ℕ) → Discipline numbers steps p

@@ -1,6 +1,6 @@
 -- The grant rule is exact: channels pass, or some arrivals defeat every proper schedule.
 use Rattle.std.proofs.Common.{◌≡◌, ℕ, ◌+◌, ◌<◌, ◌≤◌, Bool, true, ◌⊎◌, List, [], ◌∷◌, refl, inl, inr, arith}
-use Rattle.std.specs.List.{AllByRecursion as All}
+use Rattle.std.specs.List.{AllByRecursion}
 use Rattle.std.proofs.ByRecursion.{All-weaker, All-append}
 use Rattle.traffic.specs.Arrivals.{Steps}
 use Rattle.traffic.specs.Curves.{Numbers}
@@ -27,12 +27,12 @@ use Rattle.schedule.proofs.Safe.{Safe}
 use Rattle.schedule.proofs.Sums
 use Rattle.schedule.proofs.Timely.{Timely, never_late, timely_arrives, timely_tick}
 
-bulk_unweighed : (p : ℕ) (js : List Job) → All (Bulk p) js → (q : ℕ) (f : Job → ℕ) → OnlySince q f → total f js ≡ 0
+bulk_unweighed : (p : ℕ) (js : List Job) → AllByRecursion (Bulk p) js → (q : ℕ) (f : Job → ℕ) → OnlySince q f → total f js ≡ 0
 bulk_unweighed p js h q f s = Sums.total-none f js (All-weaker _ _ (λ j b. s.bulk j (rw b.due refl)) js h)
 
 module _ {K S : Type 0} (numbers : K → Numbers) (steps : K → Steps S) (p : ℕ) (ks : List K)
-    (shaped : All (λ k. CurveLaws p (numbers k)) ks) (laws : All (λ k. TrafficLaws (numbers k) (steps k)) ks) where
-  all_sized : (a : Arrivals numbers steps p ks) → All (Sized p) (arrived numbers steps p ks a)
+    (shaped : AllByRecursion (λ k. CurveLaws p (numbers k)) ks) (laws : AllByRecursion (λ k. TrafficLaws (numbers k) (steps k)) ks) where
+  all_sized : (a : Arrivals numbers steps p ks) → AllByRecursion (Sized p) (arrived numbers steps p ks a)
   all_sized a = All-append _ _ _
       (All-weaker _ _ (λ j b. (b.least, b.most)) a.bulk a.sizes)
       (offers_sized numbers steps p ks laws (All-weaker _ _ (λ k l. l.longest_most) ks shaped) a.offers)
@@ -49,7 +49,7 @@ module _ {K S : Type 0} (numbers : K → Numbers) (steps : K → Steps S) (p : �
     record OnTrack (m : State) : Type 0 where
       kept : Kept D.before 0 m
       short : Each (λ j. j.slots ≤ p) m
-      timely : All Timely m.log
+      timely : AllByRecursion Timely m.log
 
     on_track_tick : D.Serves ks → (a : Arrivals numbers steps p ks) (m n : State) → Tick D.before m n → ((f : Job → ℕ) → weigh f m ≤ total f (arrived numbers steps p ks a)) → OnTrack m → OnTrack n
     on_track_tick serves a m n t w g = record {
@@ -86,10 +86,10 @@ module _ {K S : Type 0} (numbers : K → Numbers) (steps : K → Steps S) (p : �
 module _ {K S : Type 0} (limits : K → ℕ → Bool) (numbers : K → Numbers) (steps : K → Steps S)
     (shaped : (k : K) (p : ℕ) → 1 ≤ p → p ≤ 255 → limits k p ≡ true → CurveLaws p (numbers k))
     (sound : (k : K) (p : ℕ) → 1 ≤ p → p ≤ 255 → limits k p ≡ true → TrafficLaws (numbers k) (steps k)) where
-  shapes : (p : ℕ) (ks : List K) → OnLink limits p ks → All (λ k. CurveLaws p (numbers k)) ks
+  shapes : (p : ℕ) (ks : List K) → OnLink limits p ks → AllByRecursion (λ k. CurveLaws p (numbers k)) ks
   shapes p ks h = All-weaker _ _ (λ k l. shaped k p h.least h.most l) ks h.within
 
-  lists : (p : ℕ) (ks : List K) → OnLink limits p ks → All (λ k. TrafficLaws (numbers k) (steps k)) ks
+  lists : (p : ℕ) (ks : List K) → OnLink limits p ks → AllByRecursion (λ k. TrafficLaws (numbers k) (steps k)) ks
   lists p ks h = All-weaker _ _ (λ k l. sound k p h.least h.most l) ks h.within
 
   pub every_schedule : OnEveryLink limits (SomeSchedule numbers steps)

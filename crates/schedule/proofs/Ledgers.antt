@@ -1,7 +1,7 @@
 -- The ledger of a link: the channels that it counts, what each has offered, and the core machine that sends it. All that happens on a link keeps it.
 use Rattle.std.proofs.Common.{◌≡◌, ℕ, ◌+◌, ◌-◌, ◌*◌, ◌<◌, ◌≤◌, Bool, true, false, cond, List, [], ◌∷◌, ◌++◌, map, Some, filter, refl, append_assoc, arith}
 use mathlib.Core.List.{map-append}
-use Rattle.std.specs.List.{AllByRecursion as All}
+use Rattle.std.specs.List.{AllByRecursion}
 use Rattle.std.specs.List.Sorted.{IsPermutation}
 use Rattle.std.proofs.ByRecursion.{All-append, All-map, All-weaker, all_kept_by}
 use Rattle.traffic.specs.Arrivals.{Steps}
@@ -53,8 +53,8 @@ module _ {K S : Type 0} (numbers : K → Numbers) (steps : K → Steps S) (p : �
     pub record Ledger (q : ℕ) (m : State) (es : List (Entry K S)) : Type 0 where
       pub kept : Kept D.before q m
       pub short : Each (λ j. j.slots ≤ p) m
-      pub timely : All Timely m.log
-      pub entered : All (Entered m.clock) es
+      pub timely : AllByRecursion Timely m.log
+      pub entered : AllByRecursion (Entered m.clock) es
       pub serves : D.Serves (kinds es)
       -- the channels' jobs that came since q are of channels counted now
       pub owned : (f : Job → ℕ) → OnlySince q f → weigh f m ≤ pasts f es
@@ -67,7 +67,7 @@ module _ {K S : Type 0} (numbers : K → Numbers) (steps : K → Steps S) (p : �
         let (o, e) = rows_offer numbers steps (λ e. e.kind) (λ e. e.past) es (All-weaker _ _ (λ e h. row_offered (numbers e.kind) (steps e.kind) e.now m.clock e.past h.row) es g.entered) in
         (o, λ f s. omega (arith, g.owned f s, e f))
 
-    ledger_laws : (q : ℕ) (m : State) (es : List (Entry K S)) → Ledger q m es → All (λ k. TrafficLaws (numbers k) (steps k)) (kinds es)
+    ledger_laws : (q : ℕ) (m : State) (es : List (Entry K S)) → Ledger q m es → AllByRecursion (λ k. TrafficLaws (numbers k) (steps k)) (kinds es)
     ledger_laws q m es g = All-map _ _ es (All-weaker _ _ (λ e h. h.laws) es g.entered)
 
     pub ledger_in_time : (q : ℕ) (m : State) (es : List (Entry K S)) → Ledger q m es → WaitingInTime m
@@ -126,7 +126,7 @@ module _ {K S : Type 0} (numbers : K → Numbers) (steps : K → Steps S) (p : �
 
     -- Jobs arrive.
 
-    ledger_arrives : (q : ℕ) (es es' : List (Entry K S)) (j : Job) (m n : State) → j.slots ≤ p → All (Entered n.clock) es' → D.Serves (kinds es') → ((f : Job → ℕ) → OnlySince q f → f j + pasts f es ≤ pasts f es') →
+    ledger_arrives : (q : ℕ) (es es' : List (Entry K S)) (j : Job) (m n : State) → j.slots ≤ p → AllByRecursion (Entered n.clock) es' → D.Serves (kinds es') → ((f : Job → ℕ) → OnlySince q f → f j + pasts f es ≤ pasts f es') →
         Arrives j m n → Ledger q m es → Ledger q n es'
     ledger_arrives q es es' j m n fits entered serves more a g = record {
       kept = kept_arrives D.before q a g.kept;
@@ -192,7 +192,7 @@ module _ {K S : Type 0} (numbers : K → Numbers) (steps : K → Steps S) (p : �
         one false here gone = gone
 
     -- a quiet one: with it channels may go, and all accounts begin anew for those that stay
-    pub ledger_quiet_among : (q : ℕ) (m n : State) (es stay : List (Entry K S)) → ((P : Entry K S → Type 0) → All P es → All P stay) → D.Serves (kinds stay) → Tick D.before m n → ahead timed m ≡ 0 →
+    pub ledger_quiet_among : (q : ℕ) (m n : State) (es stay : List (Entry K S)) → ((P : Entry K S → Type 0) → AllByRecursion P es → AllByRecursion P stay) → D.Serves (kinds stay) → Tick D.before m n → ahead timed m ≡ 0 →
         Ledger q m es → Ledger n.clock n stay
     ledger_quiet_among q m n es stay each serves t none g =
         let kept = kept_quiet D.before q D.bulk_last t g.kept none in

@@ -1,6 +1,6 @@
 -- The log of the core machine obeys the rules of schedules at every moment, in whatever order waiting jobs are let go.
 use Rattle.std.proofs.Common.{◌≡◌, ℕ, ◌<◌, ◌≤◌, Bool, ◌⊎◌, List, [], ◌∷◌, inl, inr, arith}
-use Rattle.std.specs.List.{AllByRecursion as All}
+use Rattle.std.specs.List.{AllByRecursion}
 use Rattle.std.specs.List.Sorted.{IsPermutation}
 use Rattle.std.proofs.lemmas.Bool.{cases_lt}
 use Rattle.std.proofs.ByRecursion.{All-weaker, all_shuffled}
@@ -12,7 +12,7 @@ use Rattle.schedule.proofs.Sums
 -- each job had ended when the next began; the newest stands first
 abbrev pub Queue : List Begun → Type 0
 Queue [] = Unit {0}
-Queue (x ∷ xs) = All (λ y. end y ≤ x.start) xs × Queue xs
+Queue (x ∷ xs) = AllByRecursion (λ y. end y ≤ x.start) xs × Queue xs
 
 abbrev OnAir : ℕ → Begun → Type 0
 OnAir s x = (x.start ≤ s) × (s < end x)
@@ -22,11 +22,11 @@ abbrev Stands : ℕ → Job → Type 0
 Stands s j = (0 < j.slots) × (j.arrival ≤ s)
 
 pub record Sound (m : State) : Type 0 where
-  pub waiting : All (Stands m.clock) m.waiting
-  pub begun : All (λ x. (x.job.arrival ≤ x.start) × (x.start < m.clock)) m.log
+  pub waiting : AllByRecursion (Stands m.clock) m.waiting
+  pub begun : AllByRecursion (λ x. (x.job.arrival ≤ x.start) × (x.start < m.clock)) m.log
   pub queue : Queue m.log
   -- in each slot so far a job was on the air, or each job that had arrived had begun
-  pub busy : (t : ℕ) → t < m.clock → Any (OnAir t) m.log ⊎ (All (λ j. t < j.arrival) m.waiting × All (λ x. (t < x.job.arrival) ⊎ (x.start ≤ t)) m.log)
+  pub busy : (t : ℕ) → t < m.clock → Any (OnAir t) m.log ⊎ (AllByRecursion (λ j. t < j.arrival) m.waiting × AllByRecursion (λ x. (t < x.job.arrival) ⊎ (x.start ≤ t)) m.log)
 
 pub sound_opened : Sound opened
 sound_opened = record { waiting = tt; begun = tt; queue = tt; busy = λ t b. absurd (omega arith) }
@@ -47,7 +47,7 @@ sound_tick (goes_on {s} {w} {l} h) i = record {
   busy = λ t lt. elim (cases_lt t s) [ inl b ↦ i.busy t b | inr e ↦ inl (Sums.any_more _ _ l (All-weaker _ _ (λ x a o. (omega arith, omega arith)) l i.begun) h) ];
 }
 sound_tick (begins {s} {w} {w'} {l} j ended h least) i =
-    let f : All (Stands s) (j ∷ w') = all_shuffled (Stands s) _ _ h i.waiting in
+    let f : AllByRecursion (Stands s) (j ∷ w') = all_shuffled (Stands s) _ _ h i.waiting in
     record {
       waiting = All-weaker _ _ (λ k a. (a.0, omega arith)) w' f.1;
       begun = ((f.0.1, omega arith), All-weaker _ _ (λ x a. (a.0, omega arith)) l i.begun);
@@ -55,7 +55,7 @@ sound_tick (begins {s} {w} {w'} {l} j ended h least) i =
       busy = λ t lt. elim (cases_lt t s) [
         | inl b ↦ elim (i.busy t b) [
           | inl a ↦ inl (inr a)
-          | inr n ↦ let v : All (λ k. t < k.arrival) (j ∷ w') = all_shuffled (λ k. t < k.arrival) _ _ h n.0 in inr (v.1, (inl v.0, n.1))
+          | inr n ↦ let v : AllByRecursion (λ k. t < k.arrival) (j ∷ w') = all_shuffled (λ k. t < k.arrival) _ _ h n.0 in inr (v.1, (inl v.0, n.1))
         ]
         | inr e ↦ inl (inl (omega arith, omega (arith, f.0.0)))
       ];
@@ -67,13 +67,13 @@ sound_tick (idles {s} {l} h) i = record {
   busy = λ t lt. elim (cases_lt t s) [ inl b ↦ i.busy t b | inr e ↦ inr (tt, All-weaker _ _ (λ x k. inr (omega arith)) l h) ];
 }
 
-pub waiting_positive : (m : State) → Sound m → All (λ j. 0 < j.slots) m.waiting
+pub waiting_positive : (m : State) → Sound m → AllByRecursion (λ j. 0 < j.slots) m.waiting
 waiting_positive m i = All-weaker _ _ (λ j a. a.0) m.waiting i.waiting
 
 -- what every job has that has arrived, waiting or begun
 pub record Each (P : Job → Type 0) (m : State) : Type 0 where
-  pub waiting : All P m.waiting
-  pub begun : All (λ x. P x.job) m.log
+  pub waiting : AllByRecursion P m.waiting
+  pub begun : AllByRecursion (λ x. P x.job) m.log
 
 pub each_opened : (P : Job → Type 0) → Each P opened
 each_opened P = record { waiting = tt; begun = tt }

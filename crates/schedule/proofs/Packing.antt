@@ -1,6 +1,6 @@
 -- The packing lemma: jobs that lie apart fill no more slots than there are.
 use Rattle.std.proofs.Common.{◌≡◌, ℕ, zero, suc, ◌+◌, ◌-◌, ◌≤◌, min, List, [], ◌∷◌, inl, inr, arith}
-use Rattle.std.specs.List.{AllByRecursion as All}
+use Rattle.std.specs.List.{AllByRecursion}
 use Rattle.std.proofs.lemmas.Bool.{cases_lt}
 use Rattle.std.proofs.ByRecursion.{All-weaker}
 use Rattle.verdict.specs.Demand.{total}
@@ -26,7 +26,7 @@ below_next : (t : ℕ) (xs : List Begun) → total (below (suc t)) xs ≤ total 
 below_next t [] = omega arith
 below_next t (x ∷ xs) = omega (arith, below_next t xs)
 
-pub packing : (n a : ℕ) (xs : List Begun) → Apart xs → All (λ x. a ≤ x.start) xs → total (below (n + a)) xs ≤ n
+pub packing : (n a : ℕ) (xs : List Begun) → Apart xs → AllByRecursion (λ x. a ≤ x.start) xs → total (below (n + a)) xs ≤ n
 packing zero a xs h k = omega (arith, total-none (below (0 + a)) xs (All-weaker _ _ (λ x l. omega arith) xs k))
 packing (suc n) a xs h k =
     let e : suc n + a ≡ suc (n + a) = omega arith in

@@ -1,6 +1,6 @@
 -- What a row of a link has offered: as steps take it packet by packet, its jobs stay offers of its channel.
 use Rattle.std.proofs.Common.{◌≡◌, ℕ, ◌+◌, ◌≤◌, List, [], ◌∷◌, ◌++◌, map, Some, Option, refl, ap, arith}
-use Rattle.std.specs.List.{AllByRecursion as All}
+use Rattle.std.specs.List.{AllByRecursion}
 use Rattle.std.proofs.ByRecursion.{All-push}
 use Rattle.traffic.specs.Arrivals.{Arrival, Steps, Taken}
 use Rattle.traffic.specs.Curves.{Numbers}
@@ -34,7 +34,7 @@ map_push f (y ∷ xs) x = ap (λ ys. f y ∷ ys) (map_push f xs x)
 -- the row's state is now, and its jobs came up to slot s
 pub record Row {S : Type 0} (n : Numbers) (m : Steps S) (now : S) (s : ℕ) (js : List Job) : Type 0 where
   pub leads : Leads m.step m.fresh 0 (map packet js) now s
-  pub due : All (λ j. j.due ≡ at (j.arrival + n.allowance)) js
+  pub due : AllByRecursion (λ j. j.due ≡ at (j.arrival + n.allowance)) js
 
 module _ {S : Type 0} (n : Numbers) (m : Steps S) where
   pub row_offered : (now : S) (s : ℕ) (js : List Job) → Row n m now s js → Offered n m js
@@ -55,7 +55,7 @@ module _ {S : Type 0} (n : Numbers) (m : Steps S) where
   }
 
 -- the offers of several rows together
-pub rows_offer : {K S R : Type 0} (numbers : K → Numbers) (steps : K → Steps S) (kind : R → K) (past : R → List Job) (rs : List R) → All (λ r. Offered (numbers (kind r)) (steps (kind r)) (past r)) rs →
+pub rows_offer : {K S R : Type 0} (numbers : K → Numbers) (steps : K → Steps S) (kind : R → K) (past : R → List Job) (rs : List R) → AllByRecursion (λ r. Offered (numbers (kind r)) (steps (kind r)) (past r)) rs →
     (o : Offers numbers steps (map kind rs)) × ((f : Job → ℕ) → total f (offered numbers steps (map kind rs) o) ≡ total (λ r. total f (past r)) rs)
 rows_offer numbers steps kind past [] h = (tt, λ f. refl)
 rows_offer numbers steps kind past (r ∷ rs) h =

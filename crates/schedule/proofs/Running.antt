@@ -1,6 +1,6 @@
 -- Any list of jobs is fed to the core machine slot by slot, and then it runs until all is begun. Its log is a schedule of the list.
 use Rattle.std.proofs.Common.{◌≡◌, ℕ, zero, suc, ◌+◌, ◌<◌, ◌≤◌, Bool, true, List, [], ◌∷◌, sym, refl, inl, inr, arith}
-use Rattle.std.specs.List.{AllByRecursion as All}
+use Rattle.std.specs.List.{AllByRecursion}
 use Rattle.std.specs.List.Sorted.{IsPermutation}
 use Rattle.std.specs.Cmp.{IsStrictWeakOrder}
 use Rattle.std.proofs.lemmas.Bool.{cases_lt}
@@ -22,12 +22,12 @@ can_tick before ranks s w l = elim (Sums.each_or_some (λ x. end x ≤ s) (λ x.
   | inl h ↦ free w h
 ]
   where
-    free : (w : List Job) → All (λ x. end x ≤ s) l → (n : State) × Tick before (state s w l) n
+    free : (w : List Job) → AllByRecursion (λ x. end x ≤ s) l → (n : State) × Tick before (state s w l) n
     free [] h = (state (s + 1) [] l, idles h)
     free (k ∷ w) h = let (j, w', e, least) = pick before ranks k w in (state (s + 1) w' (record { job = j; start = s } ∷ l), begins j h e least)
 
 -- a property of jobs P, and one of states, Good, that the steps keep
-module _ (before : Job → Job → Bool) (ranks : IsStrictWeakOrder before) (js : List Job) (P : Job → Type 0) (each : All (λ j. (0 < j.slots) × P j) js) (Good : State → Type 0)
+module _ (before : Job → Job → Bool) (ranks : IsStrictWeakOrder before) (js : List Job) (P : Job → Type 0) (each : AllByRecursion (λ j. (0 < j.slots) × P j) js) (Good : State → Type 0)
     (good-opened : Good opened)
     (good-arrives : (j : Job) → P j → (m n : State) → Arrives j m n → Good m → Good n)
     (good-tick : (m n : State) → Tick before m n → Sound m → ((f : Job → ℕ) → weigh f m ≤ total f js) → Good m → Good n) where
@@ -39,13 +39,13 @@ module _ (before : Job → Job → Bool) (ranks : IsStrictWeakOrder before) (js 
   record Stage (m : State) (r : List Job) : Type 0 where
     sound : Sound m
     good : Good m
-    coming : All (Coming m.clock) r
+    coming : AllByRecursion (Coming m.clock) r
     all : (f : Job → ℕ) → weigh f m + total f r ≡ total f js
 
   -- those that arrive in this slot are taken in; the others are laid by
-  take_in : (s : ℕ) (w : List Job) (l : List Begun) (c r : List Job) → Sound (state s w l) → Good (state s w l) → All (Coming s) r → All (Coming (s + 1)) c →
+  take_in : (s : ℕ) (w : List Job) (l : List Begun) (c r : List Job) → Sound (state s w l) → Good (state s w l) → AllByRecursion (Coming s) r → AllByRecursion (Coming (s + 1)) c →
       ((f : Job → ℕ) → weigh f (state s w l) + total f r + total f c ≡ total f js) →
-      (w' : List Job) × (r' : List Job) × Sound (state s w' l) × Good (state s w' l) × All (Coming (s + 1)) r' × ((f : Job → ℕ) → weigh f (state s w' l) + total f r' ≡ total f js)
+      (w' : List Job) × (r' : List Job) × Sound (state s w' l) × Good (state s w' l) × AllByRecursion (Coming (s + 1)) r' × ((f : Job → ℕ) → weigh f (state s w' l) + total f r' ≡ total f js)
   take_in s w l c [] i g h k e = (w, c, i, g, k, λ f. omega (arith, e f))
   take_in s w l c (j ∷ r) i g h k e = elim (cases_lt s j.arrival) [
     | inl b ↦ take_in s w l (j ∷ c) r i g h.1 ((h.0.0, h.0.1, omega arith), k) (λ f. omega (arith, e f))

@@ -1,6 +1,6 @@
 -- Safe channels: their demand and the blocking fit at every t. Under earliest deadline first all that they offer can then be sent in time.
 use Rattle.std.proofs.Common.{◌≡◌, ℕ, ◌+◌, ◌-◌, ◌<◌, ◌≤◌, Bool, true, false, List, [], ◌∷◌, ◌++◌, refl, inl, inr, arith}
-use Rattle.std.specs.List.{AllByRecursion as All}
+use Rattle.std.specs.List.{AllByRecursion}
 use Rattle.std.proofs.lemmas.Bool.{cases_lt, cond-true}
 use Rattle.std.proofs.ByRecursion.{All-weaker}
 use Rattle.traffic.specs.Arrivals.{Steps}
@@ -64,14 +64,14 @@ untimed : (d : ℕ) (x : Due) → some_day x ≡ false → until d x ≡ false
 untimed d never h = refl
 untimed d (at e) h = cc
 
-waiting_fits : (s : ℕ) (U : ℕ → ℕ) (w : List Job) → ((d : ℕ) → 0 < U d → s + U d ≤ d) → ((d : ℕ) → waits (due_by d) w ≤ U d) → All (λ j. 0 < j.slots) w → All (λ j. (d : ℕ) → due_by d j ≡ true → s + j.slots ≤ d) w
+waiting_fits : (s : ℕ) (U : ℕ → ℕ) (w : List Job) → ((d : ℕ) → 0 < U d → s + U d ≤ d) → ((d : ℕ) → waits (due_by d) w ≤ U d) → AllByRecursion (λ j. 0 < j.slots) w → AllByRecursion (λ j. (d : ℕ) → due_by d j ≡ true → s + j.slots ≤ d) w
 waiting_fits s U [] t le pos = tt
 waiting_fits s U (j ∷ w) t le pos = (
   (λ d y. let c = cond-true (due_by d j) j.slots 0 y in let u = le d in omega (arith, t d (omega arith))),
   waiting_fits s U w t (λ d. omega (arith, le d)) pos.1,
 )
 
-module _ {K S : Type 0} (numbers : K → Numbers) (steps : K → Steps S) (β : ℕ → ℕ) (ks : List K) (laws : All (λ k. TrafficLaws (numbers k) (steps k)) ks) (safe : Safe numbers β ks)
+module _ {K S : Type 0} (numbers : K → Numbers) (steps : K → Steps S) (β : ℕ → ℕ) (ks : List K) (laws : AllByRecursion (λ k. TrafficLaws (numbers k) (steps k)) ks) (safe : Safe numbers β ks)
     (o : Offers numbers steps ks) (q : ℕ) (m : State) (kept : Kept earliest q m) (owned : Owned q (offered numbers steps ks o) m)
     (blocked : (d a b : ℕ) → Any (Blocks (due_by d) q a b) m.log → b ≤ β (d - a)) where
   -- all that is due by d, at once
@@ -87,5 +87,5 @@ module _ {K S : Type 0} (numbers : K → Numbers) (steps : K → Steps S) (β : 
   safe_waiting = waiting_fits m.clock (λ d. unsent (due_by d) m) m.waiting safe_in_time (λ d. omega arith) (waiting_positive m kept.sound)
 
 -- where every job has at most p slots, none blocks for more than p − 1
-pub blocked_short : (p q : ℕ) (l : List Begun) → All (λ x. x.job.slots ≤ p) l → (X : Job → Bool) (t a b : ℕ) → Any (Blocks X q a b) l → b ≤ blocking p t
+pub blocked_short : (p q : ℕ) (l : List Begun) → AllByRecursion (λ x. x.job.slots ≤ p) l → (X : Job → Bool) (t a b : ℕ) → Any (Blocks X q a b) l → b ≤ blocking p t
 blocked_short p q l short X t a b h = Sums.any_all _ l h (All-weaker _ _ (λ x s y. omega (arith, y.longer)) l short)

@@ -1,6 +1,6 @@
 -- Busy streaks: every slot since q carried a channel's job, but for b slots. How long one lasts is bounded by the channels' numbers.
 use Rattle.std.proofs.Common.{◌≡◌, ℕ, suc, ◌+◌, ◌-◌, ◌*◌, ◌<◌, ◌≤◌, Bool, cond, ◌&&◌, ltb, List, [], ◌∷◌, ap, arith}
-use Rattle.std.specs.List.{AllByRecursion as All}
+use Rattle.std.specs.List.{AllByRecursion}
 use Rattle.std.proofs.ByRecursion.{All-weaker}
 use Rattle.std.proofs.lemmas.Bool.{and_right}
 use Rattle.std.proofs.lemmas.Bool.Decides.{nat_tests}
@@ -30,10 +30,10 @@ pub streak_anew : (m : State) → unsent timed m ≡ 0 → Streak (left m.clock 
 streak_anew m z = omega arith
 
 -- at most one job is under way, and a slot of it has been sent
-pub left_short : (p : ℕ) (m : State) → Sound m → All (λ x. x.job.slots ≤ p) m.log → left m.clock m.log ≤ p - 1
+pub left_short : (p : ℕ) (m : State) → Sound m → AllByRecursion (λ x. x.job.slots ≤ p) m.log → left m.clock m.log ≤ p - 1
 left_short p m i h = newest m.clock m.log (All-weaker _ _ (λ x b. b.1) m.log i.begun) i.queue h
   where
-    newest : (s : ℕ) (l : List Begun) → All (λ x. x.start < s) l → Queue l → All (λ x. x.job.slots ≤ p) l → left s l ≤ p - 1
+    newest : (s : ℕ) (l : List Begun) → AllByRecursion (λ x. x.start < s) l → Queue l → AllByRecursion (λ x. x.job.slots ≤ p) l → left s l ≤ p - 1
     newest s [] b c h = omega arith
     newest s (x ∷ xs) b c h = omega (arith, none_left x.start s xs (omega arith) c.0)
 
@@ -55,7 +55,7 @@ asked_waits q (j ∷ w) =
     let here : asks timed q j ≤ cond (timed j) j.slots 0 = grind (arith, nat_tests) in
     omega (arith, asked_waits q w)
 
-begun_before : (s q : ℕ) (l : List Begun) → All (λ x. x.job.arrival < s) l → total (λ x. asks timed q x.job) l ≤ total (λ x. asks_before s q x.job) l
+begun_before : (s q : ℕ) (l : List Begun) → AllByRecursion (λ x. x.job.arrival < s) l → total (λ x. asks timed q x.job) l ≤ total (λ x. asks_before s q x.job) l
 begun_before s q [] h = omega arith
 begun_before s q (x ∷ l) h =
     let lt = h.0 in
@@ -74,12 +74,12 @@ streak_before b q m i v =
     )
 
 -- the sum of the curves stays under the sum of their straight lines
-lines : {K : Type 0} (numbers : K → Numbers) (p n : ℕ) (ks : List K) → All (λ k. CurveLaws p (numbers k)) ks →
+lines : {K : Type 0} (numbers : K → Numbers) (p n : ℕ) (ks : List K) → AllByRecursion (λ k. CurveLaws p (numbers k)) ks →
     5040 * total (λ k. (numbers k).curve ((numbers k).allowance + n)) ks ≤ 5040 * total (λ k. (numbers k).burst) ks + n * works numbers ks
 lines numbers p n [] h = omega arith
 lines numbers p n (k ∷ ks) h = omega (arith, h.0.under_line n, lines numbers p n ks h.1)
 
-module _ {K S : Type 0} (numbers : K → Numbers) (steps : K → Steps S) (ks : List K) (laws : All (λ k. TrafficLaws (numbers k) (steps k)) ks)
+module _ {K S : Type 0} (numbers : K → Numbers) (steps : K → Steps S) (ks : List K) (laws : AllByRecursion (λ k. TrafficLaws (numbers k) (steps k)) ks)
     (o : Offers numbers steps ks) (q b : ℕ) (m : State) (sound : Sound m) (owned : Owned q (offered numbers steps ks o) m) (streak : Streak b q m) (since : q < m.clock) where
   -- by the curves
   pub streak_curves : m.clock - q ≤ b + total (λ k. (numbers k).curve ((numbers k).allowance + (m.clock - 1 - q))) ks
@@ -92,7 +92,7 @@ module _ {K S : Type 0} (numbers : K → Numbers) (steps : K → Steps S) (ks : 
       )
 
   -- by the straight lines: the slots since q, times what the works leave of a frame
-  pub streak_line : (p : ℕ) → All (λ k. CurveLaws p (numbers k)) ks → works numbers ks ≤ 5040 → (m.clock - q) * (5040 - works numbers ks) ≤ 5040 * (b + total (λ k. (numbers k).burst) ks)
+  pub streak_line : (p : ℕ) → AllByRecursion (λ k. CurveLaws p (numbers k)) ks → works numbers ks ≤ 5040 → (m.clock - q) * (5040 - works numbers ks) ≤ 5040 * (b + total (λ k. (numbers k).burst) ks)
   streak_line p shaped few =
       let n : ℕ = m.clock - 1 - q in
       let long : m.clock - q ≡ suc n = omega arith in

@@ -1,6 +1,6 @@
 -- Jobs in time: what has begun ends by its due slot, and what waits still can.
 use Rattle.std.proofs.Common.{◌≡◌, ℕ, ◌+◌, ◌<◌, ◌≤◌, Bool, true, cond, leb, ◌⊎◌, List, refl, inl, inr, arith}
-use Rattle.std.specs.List.{AllByRecursion as All}
+use Rattle.std.specs.List.{AllByRecursion}
 use Rattle.std.proofs.ByRecursion.{All-weaker, all_shuffled}
 use Rattle.std.proofs.lemmas.Bool.{cases_lt, cases_Bool, cond-true, cond-false, le-leb, leb-true}
 use Rattle.verdict.specs.Demand.{total}
@@ -25,22 +25,22 @@ timely_or_overdue x = go x.job.due refl
       | inr g ↦ inl (λ d h. let u : until d (at n) ≡ true = rw e at h in omega (arith, leb-true n d u))
     ]
 
-pub timely_or_late : (xs : List Begun) → All Timely xs ⊎ Late xs
+pub timely_or_late : (xs : List Begun) → AllByRecursion Timely xs ⊎ Late xs
 timely_or_late xs = Sums.each_or_some Timely _ timely_or_overdue xs
 
-pub never_late : (xs : List Begun) → All Timely xs → Late xs → ⊥
+pub never_late : (xs : List Begun) → AllByRecursion Timely xs → Late xs → ⊥
 never_late xs h late = Sums.any_all _ xs late (All-weaker _ _ (λ x o v. omega (arith, o v.0 (rw v.1 (le-leb v.0 v.0 (omega arith))))) xs h)
 
 -- every waiting job, begun now, would end by its due slot
 abbrev pub WaitingInTime : State → Type 0
-WaitingInTime m = All (λ j. (d : ℕ) → due_by d j ≡ true → m.clock + j.slots ≤ d) m.waiting
+WaitingInTime m = AllByRecursion (λ j. (d : ℕ) → due_by d j ≡ true → m.clock + j.slots ≤ d) m.waiting
 
 -- Steps keep what has begun in time.
 
-pub timely_arrives : {j : Job} {m n : State} → Arrives j m n → All Timely m.log → All Timely n.log
+pub timely_arrives : {j : Job} {m n : State} → Arrives j m n → AllByRecursion Timely m.log → AllByRecursion Timely n.log
 timely_arrives (arrives l e h) t = t
 
-pub timely_tick : {before : Job → Job → Bool} {m n : State} → Tick before m n → WaitingInTime m → All Timely m.log → All Timely n.log
+pub timely_tick : {before : Job → Job → Bool} {m n : State} → Tick before m n → WaitingInTime m → AllByRecursion Timely m.log → AllByRecursion Timely n.log
 timely_tick (goes_on h) w t = t
 timely_tick (begins {s} j ended h least) w t = ((all_shuffled (λ j. (d : ℕ) → due_by d j ≡ true → s + j.slots ≤ d) _ _ h w).0, t)
 timely_tick (idles h) w t = t
@@ -56,7 +56,7 @@ due_ended d f x h = elim (cases_Bool (due_by d x.job)) [
   | inr n ↦ omega (arith, cond-false (due_by d x.job) (f x.job) 0 n)
 ]
 
-pub due_have_ended : (m : State) → Sound m → WaitingInTime m → All Timely m.log → (f : Job → ℕ) (d : ℕ) → d ≤ m.clock →
+pub due_have_ended : (m : State) → Sound m → WaitingInTime m → AllByRecursion Timely m.log → (f : Job → ℕ) (d : ℕ) → d ≤ m.clock →
     weigh (λ j. cond (due_by d j) (f j) 0) m ≤ total (λ x. cond (leb (end x) d) (f x.job) 0) m.log
 due_have_ended m i w t f d l =
     let none = Sums.total-none (λ j. cond (due_by d j) (f j) 0) m.waiting

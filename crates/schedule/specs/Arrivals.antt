@@ -1,6 +1,6 @@
 -- What may arrive on a link: for each channel a lawful list, and bulk at will; and the channels that some arrivals defeat.
 use Rattle.std.specs.Prelude.{◌≡◌, ℕ, ◌+◌, ◌≤◌, List, [], ◌∷◌, ◌++◌, map}
-use Rattle.std.specs.List.{AllByRecursion as All}
+use Rattle.std.specs.List.{AllByRecursion}
 use Rattle.traffic.specs.Arrivals.{Arrival, Steps, Lawful}
 use Rattle.traffic.specs.Curves.{Numbers}
 use Rattle.schedule.specs.Jobs.{Job, never, at}
@@ -13,7 +13,7 @@ packet j = record { slot = j.arrival; len = j.slots }
 -- jobs that one channel offers: their packets are a lawful list, and each is due when the allowance has passed; the owner and the keys may be any
 pub record Offered {S : Type 0} (n : Numbers) (m : Steps S) (js : List Job) : Type 0 where
   pub lawful : Lawful m (map packet js)
-  pub due : All (λ j. j.due ≡ at (j.arrival + n.allowance)) js
+  pub due : AllByRecursion (λ j. j.due ≡ at (j.arrival + n.allowance)) js
 
 -- a bulk job where the longest packet has p slots: it has 1 to p slots, and is never due
 pub record Bulk (p : ℕ) (j : Job) : Type 0 where
@@ -34,7 +34,7 @@ module _ {K S : Type 0} (numbers : K → Numbers) (steps : K → Steps S) where
   -- what arrives on a link with these channels, whose longest packet has p slots
   pub record Arrivals (p : ℕ) (ks : List K) : Type 0 where
     pub bulk : List Job
-    pub sizes : All (Bulk p) bulk
+    pub sizes : AllByRecursion (Bulk p) bulk
     pub offers : Offers ks
 
   abbrev pub arrived : (p : ℕ) (ks : List K) → Arrivals p ks → List Job

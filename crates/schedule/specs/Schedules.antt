@@ -1,6 +1,6 @@
 -- Schedules: when each job begins. The air carries one job at a time, and a job once begun is sent to its end, slot after slot.
 use Rattle.std.specs.Prelude.{◌≡◌, ℕ, ◌+◌, ◌<◌, ◌≤◌, ◌⊎◌, List, [], ◌∷◌, map}
-use Rattle.std.specs.List.{AllByRecursion as All}
+use Rattle.std.specs.List.{AllByRecursion}
 use Rattle.std.specs.List.Sorted.{IsPermutation}
 use Rattle.schedule.specs.Jobs.{Job, at}
 
@@ -23,16 +23,16 @@ Any P (x ∷ xs) = P x ⊎ Any P xs
 
 -- no job begins before it arrives
 abbrev pub Begins : List Begun → Type 0
-Begins xs = All (λ x. x.job.arrival ≤ x.start) xs
+Begins xs = AllByRecursion (λ x. x.job.arrival ≤ x.start) xs
 
 -- of any two entries, one has ended when the other begins: no job is broken off (non-preemptive), and no two are on the air together
 abbrev pub Apart : List Begun → Type 0
 Apart [] = Unit {0}
-Apart (x ∷ xs) = All (λ y. (end x ≤ y.start) ⊎ (end y ≤ x.start)) xs × Apart xs
+Apart (x ∷ xs) = AllByRecursion (λ y. (end x ≤ y.start) ⊎ (end y ≤ x.start)) xs × Apart xs
 
 -- nothing that began before slot s is still on the air in it
 abbrev pub Free : ℕ → List Begun → Type 0
-Free s xs = All (λ x. x.start < s → end x ≤ s) xs
+Free s xs = AllByRecursion (λ x. x.start < s → end x ≤ s) xs
 
 -- the job has arrived by slot s and has not begun before it
 abbrev pub Waits : ℕ → Begun → Type 0

@@ -1,6 +1,6 @@
 -- What is proved of channels on a link: all arrivals have a proper schedule, and the grant rule is exact.
 use Rattle.std.specs.Prelude.{◌≡◌, ℕ, ◌+◌, ◌<◌, ◌≤◌, Bool, true, ◌⊎◌, List}
-use Rattle.std.specs.List.{AllByRecursion as All}
+use Rattle.std.specs.List.{AllByRecursion}
 use Rattle.traffic.specs.Arrivals.{Steps}
 use Rattle.traffic.specs.Curves.{Numbers}
 use Rattle.verdict.specs.Demand.{works, curves, blocking}
@@ -12,7 +12,7 @@ use Rattle.schedule.specs.Schedules.{Begun, Proper, Late}
 pub record OnLink {K : Type 0} (limits : K → ℕ → Bool) (p : ℕ) (ks : List K) : Type 0 where
   pub least : 1 ≤ p
   pub most : p ≤ 255
-  pub within : All (λ k. limits k p ≡ true) ks
+  pub within : AllByRecursion (λ k. limits k p ≡ true) ks
 
 -- of every link and all channels within limits on it
 abbrev pub OnEveryLink : {K : Type 0} → (K → ℕ → Bool) → (ℕ → List K → Type 0) → Type 0

@@ -1,6 +1,6 @@
 -- Finitely many points are enough: the sum of curves repeats each frame, so a look below the horizon decides every t.
 use Rattle.std.proofs.Common.{◌≡◌, ℕ, zero, suc, ◌+◌, ◌-◌, ◌*◌, ◌<◌, ◌≤◌, ◌⊎◌, List, [], ◌∷◌, refl, ap, inl, inr, mul-le-mul_left, arith}
-use Rattle.std.specs.List.{AllByRecursion as All}
+use Rattle.std.specs.List.{AllByRecursion}
 use Rattle.std.proofs.lemmas.Bool.{cases_lt}
 use Rattle.traffic.specs.Curves.{Numbers, Rises}
 use Rattle.traffic.specs.Laws.{CurveLaws}
@@ -46,20 +46,20 @@ module _ (β F : ℕ → ℕ) (eases : (t u : ℕ) → t ≤ u → β u ≤ β t
 -- Sums of curves.
 
 module _ {K : Type 0} (numbers : K → Numbers) (p : ℕ) where
-  pub curves_never_fall : (ks : List K) → All (λ k. CurveLaws p (numbers k)) ks → (t u : ℕ) → t ≤ u → curves numbers ks t ≤ curves numbers ks u
+  pub curves_never_fall : (ks : List K) → AllByRecursion (λ k. CurveLaws p (numbers k)) ks → (t u : ℕ) → t ≤ u → curves numbers ks t ≤ curves numbers ks u
   curves_never_fall [] l t u h = omega arith
   curves_never_fall (k ∷ ks) l t u h = omega (arith, l.0.never_falls t u h, curves_never_fall ks l.1 t u h)
 
-  repeats_after : (ks : List K) → All (λ k. CurveLaws p (numbers k)) ks → (t : ℕ) → largest (λ k. (numbers k).allowance) ks ≤ t → curves numbers ks (t + 5040) ≡ curves numbers ks t + works numbers ks
+  repeats_after : (ks : List K) → AllByRecursion (λ k. CurveLaws p (numbers k)) ks → (t : ℕ) → largest (λ k. (numbers k).allowance) ks ≤ t → curves numbers ks (t + 5040) ≡ curves numbers ks t + works numbers ks
   repeats_after [] l t h = omega arith
   repeats_after (k ∷ ks) l t h = omega (arith, l.0.repeats t (omega arith), repeats_after ks l.1 t (omega arith))
 
   -- once every allowance has passed, each channel may have asked for something
-  idle_after : (ks : List K) → All (λ k. CurveLaws p (numbers k)) ks → (t : ℕ) → largest (λ k. (numbers k).allowance) ks ≤ t → curves numbers ks t ≡ 0 → works numbers ks ≡ 0
+  idle_after : (ks : List K) → AllByRecursion (λ k. CurveLaws p (numbers k)) ks → (t : ℕ) → largest (λ k. (numbers k).allowance) ks ≤ t → curves numbers ks t ≡ 0 → works numbers ks ≡ 0
   idle_after [] l t h z = refl
   idle_after (k ∷ ks) l t h z = absurd (omega (arith, l.0.longest_least, l.0.starts, l.0.never_falls (numbers k).allowance t (omega arith)))
 
-  module _ (β : ℕ → ℕ) (eases : (t u : ℕ) → t ≤ u → β u ≤ β t) (ks : List K) (laws : All (λ k. CurveLaws p (numbers k)) ks) where
+  module _ (β : ℕ → ℕ) (eases : (t u : ℕ) → t ≤ u → β u ≤ β t) (ks : List K) (laws : AllByRecursion (λ k. CurveLaws p (numbers k)) ks) where
     -- a t that fits carries all that lie whole frames after it
     pub fits_every_frame : works numbers ks ≤ 5040 → ((t : ℕ) → t < horizon numbers ks → Fits β (curves numbers ks) t) → (n t : ℕ) → t ≤ n → Fits β (curves numbers ks) t
     fits_every_frame few below zero t l = below t (omega arith)

@@ -1,6 +1,6 @@
 -- A longer allowance only lowers a channel's curve: what passes with one passes with every longer one.
 use Rattle.std.proofs.Common.{◌≡◌, ℕ, ◌+◌, ◌-◌, ◌≤◌, Bool, true, List, [], ◌∷◌, ◌++◌, ap, ◌∙◌, ⊎_elim, arith}
-use Rattle.std.specs.List.{AllByRecursion as All}
+use Rattle.std.specs.List.{AllByRecursion}
 use Rattle.std.proofs.ByRecursion.{All-append}
 use Rattle.std.proofs.lemmas.Bool.{cases_lt}
 use Rattle.traffic.specs.Curves.{Numbers}
@@ -17,11 +17,11 @@ pub record Lawful {K : Type 0} (m : K → Numbers) (limits : K → ℕ → Bool)
   pub redated : (k : K) (p e : ℕ) → 1 ≤ p → p ≤ 255 → limits k p ≡ true → (m k).longest ≤ e → e ≤ 40320 → Redated (m k) e (m (dated k e))
   pub redatable : (k : K) (p e : ℕ) → 1 ≤ p → p ≤ 255 → limits k p ≡ true → (m k).longest ≤ e → e ≤ 40320 → limits (dated k e) p ≡ true
 
-last_holds : {K : Type 0} (P : K → Type 0) (ks : List K) (k : K) → All P (ks ++ k ∷ []) → P k
+last_holds : {K : Type 0} (P : K → Type 0) (ks : List K) (k : K) → AllByRecursion P (ks ++ k ∷ []) → P k
 last_holds P [] k all = all.0
 last_holds P (x ∷ ks) k all = last_holds P ks k all.1
 
-front_holds : {K : Type 0} (P : K → Type 0) (ks : List K) (k : K) → All P (ks ++ k ∷ []) → All P ks
+front_holds : {K : Type 0} (P : K → Type 0) (ks : List K) (k : K) → AllByRecursion P (ks ++ k ∷ []) → AllByRecursion P ks
 front_holds P [] k all = tt
 front_holds P (x ∷ ks) k all = (all.0, front_holds P ks k all.1)
 

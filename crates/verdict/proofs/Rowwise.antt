@@ -1,7 +1,7 @@
 -- The curves of a judged table, row by row.
 use Rattle.std.proofs.Common.{◌≡◌, ℕ, zero, suc, ◌+◌, ◌*◌, ◌≤◌, Bool, true, List, length, get_or, take, Some, None, Option, refl, ap, ◌∙◌, subst, arith}
 use lib.Seq.{take-length}
-use Rattle.std.specs.List.{AllByRecursion as All}
+use Rattle.std.specs.List.{AllByRecursion}
 use Rattle.std.proofs.ByRecursion.{All-weaker}
 use Rattle.traffic.specs.Curves.{Numbers}
 use Rattle.traffic.specs.Laws.{CurveLaws}
@@ -13,11 +13,11 @@ use Rattle.verdict.specs.Sweeps.{upto, curve_of, row_curve}
 use Rattle.verdict.proofs.Totals.{present_holds, total-one, total-none}
 
 -- each channel of a judged table keeps its laws
-pub row_laws : {K : Type 0} (m : K → Numbers) (limits : K → ℕ → Bool) → ((k : K) (p : ℕ) → 1 ≤ p → p ≤ 255 → limits k p ≡ true → CurveLaws p (m k)) → {p n : ℕ} {ks : List K} → Judgeable limits p n ks → All (λ k. CurveLaws p (m k)) ks
+pub row_laws : {K : Type 0} (m : K → Numbers) (limits : K → ℕ → Bool) → ((k : K) (p : ℕ) → 1 ≤ p → p ≤ 255 → limits k p ≡ true → CurveLaws p (m k)) → {p n : ℕ} {ks : List K} → Judgeable limits p n ks → AllByRecursion (λ k. CurveLaws p (m k)) ks
 row_laws m limits shaped {p} {n} {ks} judged =
     All-weaker (λ k. limits k p ≡ true) (λ k. CurveLaws p (m k)) (λ k. shaped k p judged.least judged.most) ks judged.within
 
-module _ {K : Type 0} (m : K → Numbers) (p : ℕ) (os : List (Option K)) (laws : All (λ k. CurveLaws p (m k)) (present os)) where
+module _ {K : Type 0} (m : K → Numbers) (p : ℕ) (os : List (Option K)) (laws : AllByRecursion (λ k. CurveLaws p (m k)) (present os)) where
   -- what holds of the curve of every channel, and of 0, holds of a row's curve
   by_row : (P : (ℕ → ℕ) → Type 0) → ((k : K) → CurveLaws p (m k) → P (m k).curve) → P (λ v. 0) → (i : ℕ) → P (row_curve m os i)
   by_row P one none i = cases (get_or os i None) refl

@@ -1,7 +1,7 @@
 -- What a sweep over rises knows, and each of its steps.
 use Rattle.std.proofs.Common.{◌≡◌, ℕ, zero, suc, ◌+◌, ◌-◌, ◌*◌, ◌<◌, ◌≤◌, List, [], ◌∷◌, ◌++◌, Some, None, sum_by, Option, sym, refl, ap, ◌∙◌, subst, ⊎_elim, arith}
 use Rattle.std.specs.Option.{option_to_list}
-use Rattle.std.specs.List.{AllByRecursion as All}
+use Rattle.std.specs.List.{AllByRecursion}
 use Rattle.std.specs.List.Sorted.{IsPermutation}
 use Rattle.std.proofs.ByRecursion.{All-weaker, all_shuffled}
 use Rattle.std.proofs.lemmas.List.Sorted.{sum_by-IsPermutation}
@@ -25,11 +25,11 @@ module _ {X : Type 0} where
   pub total-shuffled : (f : X → ℕ) (xs ys : List X) → IsPermutation xs ys → total f ys ≡ total f xs
   total-shuffled f xs ys s = total-sum_by f ys ∙ sum_by-IsPermutation f xs ys s ∙ sym (total-sum_by f xs)
 
-  total-same : (f g : X → ℕ) (xs : List X) → All (λ x. f x ≡ g x) xs → total f xs ≡ total g xs
+  total-same : (f g : X → ℕ) (xs : List X) → AllByRecursion (λ x. f x ≡ g x) xs → total f xs ≡ total g xs
   total-same f g [] all = refl
   total-same f g (x ∷ xs) all = omega (arith, all.0, total-same f g xs all.1)
 
-  pub total-most : (f : X → ℕ) (b : ℕ) (xs : List X) → All (λ x. f x ≤ b) xs → total f xs ≤ b * total (λ _. 1) xs
+  pub total-most : (f : X → ℕ) (b : ℕ) (xs : List X) → AllByRecursion (λ x. f x ≤ b) xs → total f xs ≤ b * total (λ _. 1) xs
   total-most f b [] all = omega arith
   total-most f b (x ∷ xs) all = omega (arith, all.0, total-most f b xs all.1, mul_step (total (λ _. 1) xs))
     where
@@ -90,7 +90,7 @@ module _ (rc : ℕ → ℕ → ℕ) (up : (i t u : ℕ) → t ≤ u → rc i t �
   }
 
   -- a later start, where no point lies before it
-  pub sweep_from : {low low' from from' sum : ℕ} {ps : List Point} → from ≤ from' → All (λ p. low' ≤ p.t) ps → Sweep rc n low from end ps sum → Sweep rc n low' from' end ps sum
+  pub sweep_from : {low low' from from' sum : ℕ} {ps : List Point} → from ≤ from' → AllByRecursion (λ p. low' ≤ p.t) ps → Sweep rc n low from end ps sum → Sweep rc n low' from' end ps sum
   sweep_from {low} {low'} {from} {from'} {sum} {ps} later all s = record {
     done = s.done;
     pending = both ps all s.pending;
@@ -99,7 +99,7 @@ module _ (rc : ℕ → ℕ → ℕ) (up : (i t u : ℕ) → t ≤ u → rc i t �
     level = s.level;
   }
     where
-      both : (qs : List Point) → All (λ p. low' ≤ p.t) qs → All (Pending rc low from end) qs → All (Pending rc low' from' end) qs
+      both : (qs : List Point) → AllByRecursion (λ p. low' ≤ p.t) qs → AllByRecursion (Pending rc low from end) qs → AllByRecursion (Pending rc low' from' end) qs
       both [] a b = tt
       both (q ∷ qs) a b = (
         record {

@@ -1,7 +1,7 @@
 -- A sweep over the rows of a table, as a walk over the points of the sum of their curves.
 use Rattle.std.proofs.Common.{◌≡◌, ℕ, ◌+◌, ◌-◌, ◌<◌, ◌≤◌, false, List, [], ◌∷◌, ◌++◌, length, get_or, Some, None, Option, sym, refl, ap, ◌∙◌, subst, inl, inr, ⊎_elim, arith, below_more}
 use Rattle.std.specs.Option.{option_to_list}
-use Rattle.std.specs.List.{AllByRecursion as All}
+use Rattle.std.specs.List.{AllByRecursion}
 use Rattle.std.specs.List.Sorted.{IsPermutation}
 use Rattle.std.proofs.ByRecursion.{All-from_get_or, All-weaker}
 use Rattle.std.proofs.lemmas.Bool.{cases_lt}
@@ -28,7 +28,7 @@ pub record Upto (F : ℕ → ℕ) (end : ℕ) (β : ℕ → ℕ) (t count : ℕ)
   pub fit : (u : ℕ) → u < t + 1 → Rises F u → Fits β F u
 
 -- the first point is the earliest
-pub earliest : (p : Point) (ps : List Point) → First point_before p ps → All (λ q. p.t ≤ q.t) ps
+pub earliest : (p : Point) (ps : List Point) → First point_before p ps → AllByRecursion (λ q. p.t ≤ q.t) ps
 earliest p ps first = All-from_get_or (λ q. p.t ≤ q.t) ps p (λ i inside. not_before (get_or ps i p) (first i p inside))
   where
     not_before : (q : Point) → point_before q p ≡ false → p.t ≤ q.t
@@ -101,8 +101,8 @@ module _ (rc : ℕ → ℕ → ℕ) (up : (i t u : ℕ) → t ≤ u → rc i t �
         there : Sweep rc n (t + 1) (t + 1) end (p ∷ rest) sum
         there = subst (λ qs. Sweep rc n (t + 1) (t + 1) end qs sum) is s
 
-        soonest : All (λ q. p.t ≤ q.t) (p ∷ rest)
-        soonest = subst (All (λ q. p.t ≤ q.t)) is (earliest p ps first)
+        soonest : AllByRecursion (λ q. p.t ≤ q.t) (p ∷ rest)
+        soonest = subst (AllByRecursion (λ q. p.t ≤ q.t)) is (earliest p ps first)
 
         -- the next point comes after t, and the rows that rise there are to be moved on
         pub point_after_lem : t < p.t
@@ -190,7 +190,7 @@ module _ (rc : ℕ → ℕ → ℕ) (up : (i t u : ℕ) → t ≤ u → rc i t �
       (subst (λ l. NextPoint (rc p.row) p.row t l end next) is point) (omega arith) s
 
 -- the same for the rows of a table whose channels keep their laws
-module _ {K : Type 0} (m : K → Numbers) (p : ℕ) (os : List (Option K)) (laws : All (λ k. CurveLaws p (m k)) (present os)) (end : ℕ) where
+module _ {K : Type 0} (m : K → Numbers) (p : ℕ) (os : List (Option K)) (laws : AllByRecursion (λ k. CurveLaws p (m k)) (present os)) (end : ℕ) where
   abbrev all_curves : ℕ → ℕ
   all_curves = curves m (present os)
 

@@ -1,6 +1,6 @@
 -- Sums, the largest and what holds of all, over the channels at the first places, with one place more.
 use Rattle.std.proofs.Common.{◌≡◌, ℕ, zero, suc, ◌+◌, ◌<◌, ◌≤◌, max, Bool, true, List, [], ◌∷◌, ◌++◌, length, get_or, take, Some, None, Option, sym, refl, ap, ◌∙◌, subst, arith, take_all}
-use Rattle.std.specs.List.{AllByRecursion as All}
+use Rattle.std.specs.List.{AllByRecursion}
 use Rattle.traffic.specs.Curves.{Numbers}
 use Rattle.traffic.specs.Laws.{Within, CurveLaws}
 use Rattle.verdict.specs.Demand.{total, largest, curves}
@@ -24,7 +24,7 @@ pub present_all : {K : Type 0} (os : List (Option K)) (i : ℕ) → length os �
 present_all os i all = ap present (take_all i os all)
 
 -- what holds of all channels holds of the one at a place
-pub present_holds : {K : Type 0} (P : K → Type 0) (os : List (Option K)) (i : ℕ) (k : K) → Some k ≡ get_or os i None → All P (present os) → P k
+pub present_holds : {K : Type 0} (P : K → Type 0) (os : List (Option K)) (i : ℕ) (k : K) → Some k ≡ get_or os i None → AllByRecursion P (present os) → P k
 present_holds P [] i k is all = let z : ◌≡◌ {A = ℕ} 0 1 = cc in absurd (omega arith)
 present_holds P (None ∷ os) zero k is all = let z : ◌≡◌ {A = ℕ} 0 1 = cc in absurd (omega arith)
 present_holds P (Some x ∷ os) zero k is all = let e : x ≡ k = cc in subst P e all.0
@@ -62,7 +62,7 @@ module _ {K : Type 0} (limits : K → ℕ → Bool) (p n : ℕ) (os : List (Opti
   place_within = record { under = p; least = judged.least; most = judged.most; holds = place_limits }
 
 -- no curve is above 0 at 0
-pub nothing_at_zero : {K : Type 0} (m : K → Numbers) (p : ℕ) (ks : List K) → All (λ k. CurveLaws p (m k)) ks → curves m ks 0 ≡ 0
+pub nothing_at_zero : {K : Type 0} (m : K → Numbers) (p : ℕ) (ks : List K) → AllByRecursion (λ k. CurveLaws p (m k)) ks → curves m ks 0 ≡ 0
 nothing_at_zero m p [] laws = refl
 nothing_at_zero m p (k ∷ ks) laws =
     let law = laws.0 in

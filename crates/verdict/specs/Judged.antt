@@ -1,6 +1,6 @@
 -- What the verdict answers of a set of channels on a link whose longest packet has p slots.
 use Rattle.std.specs.Prelude.{◌≡◌, ℕ, ◌<◌, ◌≤◌, Bool, true, false, List, Decides}
-use Rattle.std.specs.List.{AllByRecursion as All}
+use Rattle.std.specs.List.{AllByRecursion}
 use Rattle.traffic.specs.Curves.{Numbers}
 use Rattle.verdict.specs.Demand.{works, curves, horizon, blocking}
 use Rattle.verdict.specs.Passes.{Passes}
@@ -13,7 +13,7 @@ pub record Judgeable {K : Type 0} (limits : K → ℕ → Bool) (p rows : ℕ) (
   pub least : 1 ≤ p
   pub most : p ≤ 255
   pub few : rows ≤ 32
-  pub within : All (λ k. limits k p ≡ true) ks
+  pub within : AllByRecursion (λ k. limits k p ≡ true) ks
 
 module _ {K : Type 0} (m : K → Numbers) (limits : K → ℕ → Bool) (p rows : ℕ) (ks : List K) where
   -- granted: the works fit a frame and every point fits; refused: they do not, or a point is the first that does not

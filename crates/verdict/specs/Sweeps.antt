@@ -2,7 +2,7 @@
 -- The curve of row i at v is rc i v.
 use Rattle.std.specs.Prelude.{◌≡◌, ℕ, zero, suc, ◌+◌, ◌-◌, ◌<◌, ◌≤◌, List, [], ◌∷◌, ◌++◌, Some, None, Option, slice_index_or}
 use Rattle.std.specs.Option.{option_to_list}
-use Rattle.std.specs.List.{AllByRecursion as All}
+use Rattle.std.specs.List.{AllByRecursion}
 use Rattle.std.specs.List.Sorted.{IsPermutation}
 use Rattle.pool.specs.Contents.{contents}
 use Rattle.pool.specs.Elements.{head}
@@ -39,8 +39,8 @@ Quiet rc from end i = (v : ℕ) → from ≤ v → v < end → Rises (rc i) v �
 -- each of n rows has a point to come or is done, and the sum is that of all rows just before their next rise
 pub record Sweep (rc : ℕ → ℕ → ℕ) (n low from end : ℕ) (ps : List Point) (sum : ℕ) : Type 0 where
   pub done : List ℕ
-  pub pending : All (Pending rc low from end) ps
-  pub quiet : All (Quiet rc from end) done
+  pub pending : AllByRecursion (Pending rc low from end) ps
+  pub quiet : AllByRecursion (Quiet rc from end) done
   pub rows : (w : ℕ → ℕ) → total (λ p. w p.row) ps + total w done ≡ total w (upto n)
   pub level : sum ≡ total (λ p. p.level) ps + total (λ i. rc i (end - 1)) done
 

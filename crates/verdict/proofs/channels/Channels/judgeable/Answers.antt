@@ -1,5 +1,5 @@
 use Rattle.std.proofs.Common.{◌≡◌, ◌<◌, true, length, sym, refl, ◌∙◌, subst, arith}
-use Rattle.std.specs.List.{AllByRecursion as All}
+use Rattle.std.specs.List.{AllByRecursion}
 use Rattle.std.proofs.ByRecursion.{All-push}
 use Rattle.std.proofs.lemmas.Bool.{false≢true}
 use Rattle.verdict.specs.Members.{places}
@@ -19,8 +19,8 @@ loop-i-preserved g c =
     let P : g.row.K.Denot → Type 0 = λ k. g.K.Curve.limits k c.args.longest ≡ true in
     let inside : c.loop-i.i < length os = omega arith in
     elim c.match-at.branch [
-      | in-Some+else-not-within w ↦ subst (All P) (sym (one_more os _ inside _ w.in-Some.ensures)) (All-push P _ _ c.loop-i.invariant (sym w.if-not-within.ensures))
-      | in_default w ↦ subst (All P) (sym (none_more os _ inside w.in_default.ensures)) c.loop-i.invariant
+      | in-Some+else-not-within w ↦ subst (AllByRecursion P) (sym (one_more os _ inside _ w.in-Some.ensures)) (All-push P _ _ c.loop-i.invariant (sym w.if-not-within.ensures))
+      | in_default w ↦ subst (AllByRecursion P) (sym (none_more os _ inside w.in_default.ensures)) c.loop-i.invariant
     ]
 
 pub returns : goal.returns
@@ -29,7 +29,7 @@ returns g c = (
     least = c.if-longest-lt1.false;
     most = c.if-longest-gt255.false;
     few = c.if-self-gt32.false;
-    within = subst (All (λ k. g.K.Curve.limits k c.args.longest ≡ true)) (present_all (places c.args.self.now) c.loop-i.i (omega arith)) c.loop-i.invariant;
+    within = subst (AllByRecursion (λ k. g.K.Curve.limits k c.args.longest ≡ true)) (present_all (places c.args.self.now) c.loop-i.i (omega arith)) c.loop-i.invariant;
   },
   λ _. refl,
 )
