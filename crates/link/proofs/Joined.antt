@@ -3,6 +3,8 @@ use Rattle.std.proofs.Common.{◌≡◌, ℕ, zero, suc, ◌+◌, ◌<◌, ◌�
 use Rattle.std.specs.List.{slice_get}
 use Rattle.std.proofs.lemmas.Bool.{true≢false}
 use Rattle.std.specs.Option.{option_map}
+use Rattle.traffic.specs.declared.Curve.{Ghosts as CurveGhosts}
+use Rattle.traffic.specs.declared.Traffic.{Ghosts as TrafficGhosts}
 use Rattle.traffic.specs.declared.Row.{Row}
 use Rattle.pool.specs.Contents.{contents, capacity}
 use Rattle.traffic.specs.Curves.{Numbers}
@@ -115,7 +117,7 @@ module _ {X S : Type 0} where
   opened_model name longest cap places rows rs ps p q r = rw (p, q, r)
 
   -- the model of a link that has so many lent rows, and these rows
-  abbrev pub placed : Link X S → ℕ → List (FullRow X S) → Model X S
+  abbrev pub placed : {t : TrafficGhosts X S} {c : CurveGhosts X} → Link X S t c → ℕ → List (FullRow X S) → Model X S
   placed l n rs = record {
     terms = terms_of l.name l.longest n (capacity l.waiting);
     clock = l.clock;
@@ -141,7 +143,7 @@ module _ {X S : Type 0} where
     last = m.last;
   }
 
-  pub stored_model : (l : Link X S) (i : ℕ) (w : Row X S) →
+  pub stored_model : {t : TrafficGhosts X S} {c : CurveGhosts X} (l : Link X S t c) (i : ℕ) (w : Row X S) →
       placed l (length (set l.rows.now i w)) (joined l.table.records (set l.rows.now i w))
       ≡ with_rows (model l) (changed (on_row w) i (joined l.table.records l.rows.now))
   stored_model l i w =
@@ -195,7 +197,7 @@ module _ {X S : Type 0} where
       let v = vacant_row es ws i (sym h) in
       ap (λ (e : Record). e.phase) (sym (joined_entry es ws i v.0 blank v.1)) ∙ v.2
 
-  pub filled_model : (l : Link X S) (i mat : ℕ) (w : Row X S) (es : List Record) →
+  pub filled_model : {t : TrafficGhosts X S} {c : CurveGhosts X} (l : Link X S t c) (i mat : ℕ) (w : Row X S) (es : List Record) →
       es ≡ set l.table.records i (record { mat = mat; serial = l.serials + 1; phase = Held }) →
       with_serial (placed l (length (set l.rows.now i w)) (joined es (set l.rows.now i w))) (l.serials + 1)
       ≡ filled (model l) i mat w

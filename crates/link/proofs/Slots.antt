@@ -1,5 +1,7 @@
 -- The parts of a tick.
 use Rattle.std.proofs.Common.{◌≡◌, List, map, length, None, Option, ap, ◌∙◌}
+use Rattle.traffic.specs.declared.Curve.{Ghosts as CurveGhosts}
+use Rattle.traffic.specs.declared.Traffic.{Ghosts as TrafficGhosts}
 use Rattle.pool.specs.Contents.{contents, capacity}
 use Rattle.link.specs.declared.state.Air.{Air}
 use Rattle.link.specs.declared.state.Bulk.{Bulk}
@@ -14,7 +16,7 @@ use Rattle.link.proofs.Joined.{joined_map}
 
 module _ {X S : Type 0} where
   -- the model of a link with this table, this bulk packet and this on the air
-  abbrev resting : Link X S → List (FullRow X S) → Option Bulk → Option Air → Model X S
+  abbrev resting : {t : TrafficGhosts X S} {c : CurveGhosts X} → Link X S t c → List (FullRow X S) → Option Bulk → Option Air → Model X S
   resting l rs b a = record {
     terms = terms_of l.name l.longest (length l.rows.now) (capacity l.waiting);
     clock = l.clock;
@@ -27,7 +29,7 @@ module _ {X S : Type 0} where
     last = l.last;
   }
 
-  pub rested : (l : Link X S) (es : List Record) (b : Option Bulk) (a : Option Air) →
+  pub rested : {t : TrafficGhosts X S} {c : CurveGhosts X} (l : Link X S t c) (es : List Record) (b : Option Bulk) (a : Option Air) →
       es ≡ map (moved Quiet) l.table.records → b ≡ None → a ≡ begun_bulk l.bulk →
       resting l (joined es l.rows.now) b a ≡ quiet (model l)
   rested l es b a e n h =

@@ -1,5 +1,7 @@
 -- What a call leaves of the link and of the memory that its owner lent.
 use Rattle.std.specs.Prelude.{◌≡◌, Ok, Err, Result}
+use Rattle.traffic.specs.declared.Curve.{Ghosts as CurveGhosts}
+use Rattle.traffic.specs.declared.Traffic.{Ghosts as TrafficGhosts}
 use Rattle.pool.specs.Contents.{BeyondKept}
 use Rattle.link.specs.declared.state.Link.{Link}
 
@@ -10,17 +12,17 @@ Kept (Err e) l k = k ≡ l
 
 module _ {X S : Type 0} where
   -- the rows may have changed, and nothing else that is lent
-  abbrev pub RowsOnly : Link X S → Link X S → Type 0
+  abbrev pub RowsOnly : {t : TrafficGhosts X S} {c : CurveGhosts X} → Link X S t c → Link X S t c → Type 0
   RowsOnly l k = (k.rows.ghost_name ≡ l.rows.ghost_name) × (k.waiting ≡ l.waiting)
 
   -- nothing that is lent has changed
-  abbrev pub NothingLent : Link X S → Link X S → Type 0
+  abbrev pub NothingLent : {t : TrafficGhosts X S} {c : CurveGhosts X} → Link X S t c → Link X S t c → Type 0
   NothingLent l k = (k.rows ≡ l.rows) × (k.waiting ≡ l.waiting)
 
   -- the places of waiting packets may have changed, and nothing else that is lent
-  abbrev pub WaitingOnly : Link X S → Link X S → Type 0
+  abbrev pub WaitingOnly : {t : TrafficGhosts X S} {c : CurveGhosts X} → Link X S t c → Link X S t c → Type 0
   WaitingOnly l k = (k.rows ≡ l.rows) × (k.waiting.places.ghost_name ≡ l.waiting.places.ghost_name) × BeyondKept l.waiting k.waiting
 
   -- rows and the places of waiting packets may have changed, and nothing else that is lent
-  abbrev pub RowsAndWaiting : Link X S → Link X S → Type 0
+  abbrev pub RowsAndWaiting : {t : TrafficGhosts X S} {c : CurveGhosts X} → Link X S t c → Link X S t c → Type 0
   RowsAndWaiting l k = (k.rows.ghost_name ≡ l.rows.ghost_name) × (k.waiting.places.ghost_name ≡ l.waiting.places.ghost_name) × BeyondKept l.waiting k.waiting

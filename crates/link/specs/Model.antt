@@ -1,5 +1,7 @@
 -- What a link holds, apart from how it lies in memory.
 use Rattle.std.specs.Prelude.{ℕ, Bool, cond, not, ◌&&◌, List, [], ◌∷◌, map, length, take, None, Option, nat_le}
+use Rattle.traffic.specs.declared.Curve.{Ghosts as CurveGhosts}
+use Rattle.traffic.specs.declared.Traffic.{Ghosts as TrafficGhosts}
 use Rattle.traffic.specs.declared.Row.{Row}
 use Rattle.pool.specs.Contents.{contents, capacity}
 use Rattle.link.specs.declared.state.Air.{Air}
@@ -55,7 +57,7 @@ joined (e ∷ es) (w ∷ ws) = record { entry = e; row = w } ∷ joined es ws
 
 module _ {X S : Type 0} where
   -- what a link means
-  abbrev pub model : Link X S → Model X S
+  abbrev pub model : {t : TrafficGhosts X S} {c : CurveGhosts X} → Link X S t c → Model X S
   model l = record {
     terms = terms_of l.name l.longest (length l.rows.now) (capacity l.waiting);
     clock = l.clock;

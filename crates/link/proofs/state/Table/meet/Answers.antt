@@ -8,15 +8,14 @@ invariant_of-self c =
     let rs = c.args.self.now.records in
     let i = c.args.i in
     let e = c.args.event in
-    let is : set rs i c.meet.new.self ≡ changed (moved e) i rs = ap (set rs i) c.meet.ensures ∙ set_changed (moved e) i rs _ in (
-      length-set rs i c.meet.new.self ∙ c.args.self.now.full,
-      (
-        ap (λ qs. c.may_leave-self.result || none_leaving qs) is
-            ∙ ap (λ b. b || none_leaving (changed (moved e) i rs)) c.may_leave-self.ensures
-            ∙ known_moved c.args.self.now.leaving e i rs c.args.self.now.known,
-        tt,
-      ),
-    )
+    let is : set rs i c.meet.new.self ≡ changed (moved e) i rs = ap (set rs i) c.meet.ensures ∙ set_changed (moved e) i rs _ in
+    record {
+      full = length-set rs i c.meet.new.self ∙ c.args.self.now.full;
+      known =
+          ap (λ qs. c.may_leave-self.result || none_leaving qs) is
+          ∙ ap (λ b. b || none_leaving (changed (moved e) i rs)) c.may_leave-self.ensures
+          ∙ known_moved c.args.self.now.leaving e i rs c.args.self.now.known;
+    }
 
 pub returns : goal.returns
 returns c =

@@ -4,10 +4,10 @@ use Rattle.link.proofs.Tables.{rest_none, rest_calm}
 use Rattle.link.proofs.state.Table.rest.Goals as goal
 
 pub invariant_of-self : goal.invariant_of-self
-invariant_of-self c = (
-  c.meet_all.auto.records ∙ c.args.self.now.full,
-  (ap none_leaving c.meet_all.ensures ∙ rest_calm c.args.self.now.records, tt),
-)
+invariant_of-self c = record {
+  full = c.meet_all.auto.records ∙ c.args.self.now.full;
+  known = ap none_leaving c.meet_all.ensures ∙ rest_calm c.args.self.now.records;
+}
 
 pub returns-else-self : goal.returns-else-self
 returns-else-self c =
