@@ -26,9 +26,9 @@ loop-i-preserved g c =
 pub returns : goal.returns
 returns g c = (
   λ e. record {
-    least = c.if-longest-lt1.false;
-    most = c.if-longest-gt255.false;
-    few = c.if-self-gt32.false;
+    least = omega arith;
+    most = omega arith;
+    few = omega arith;
     within = subst (AllByRecursion (λ k. g.K.Curve.limits k c.args.longest ≡ true)) (present_all (places c.args.self.now) c.loop-i.i (omega arith)) c.loop-i.invariant;
   },
   λ _. refl,
