@@ -14,13 +14,12 @@ use Rattle.verdict.specs.declared.Verdict.TheVariants.{Granted, Overloaded as He
 use Rattle.verdict.proofs.Lengthening.{beside_judgeable}
 use Rattle.link.specs.Asking.{StretchUnless, LeastUnless, Told}
 use Rattle.link.specs.Holding.{Holds, HeldOr, Decided, hold_cause}
-use Rattle.link.specs.Model.{channels}
 use Rattle.link.specs.Packets.{is_mat_lem}
 use Rattle.link.specs.Refusals.{decided}
 use Rattle.link.specs.declared.refusals.Refusal.{Refusal}
 use Rattle.link.specs.declared.refusals.Refusal.TheVariants.{Limits, Overloaded, Late}
 use Rattle.link.specs.declared.state.Hold.{Hold}
-use Rattle.figures.specs.Answers.{Link, Refuses, Grants, Counting, Judges, RefusedOn, GrantedOn, LeastOn, StretchOn}
+use Rattle.figures.specs.Answers.{Link, Refuses, Counting, Judges, RefusedOn, GrantedOn, LeastOn, StretchOn}
 use Rattle.figures.specs.Kinds.{Kind, numbers, limits, dated, steps}
 use Rattle.figures.proofs.Laws.{shaped, lawful}
 use Rattle.figures.proofs.Tests.{failing, fails_tested, passing, passes_tested}

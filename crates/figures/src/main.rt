@@ -1,4 +1,6 @@
 // The worked figures of links: proved of every link that they speak of, and some of them run.
+#![tactic(auto)]
+
 ghost use Rattle.figures.specs.Figures.{Figures};
 
 mod runs;

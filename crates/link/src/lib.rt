@@ -1,4 +1,6 @@
 // The link: rows and holds, and the sender.
+#![tactic(auto)]
+
 mod holds;
 mod packets;
 pub mod refusals;

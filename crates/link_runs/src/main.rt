@@ -1,4 +1,6 @@
 // Calls of links that no plan can make, with what they answer.
+#![tactic(auto)]
+
 mod causes;
 mod course;
 mod end;

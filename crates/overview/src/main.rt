@@ -1,5 +1,7 @@
 // Reads a plan from standard input and prints a picture of the channels that a link would grant: what may be due within
 // the first slots, and how many slots that leaves.
+#![tactic(auto)]
+
 ghost use Rattle.std.specs.Prelude.{◌<◌, ◌≤◌, IfOk};
 ghost use Rattle.plan.specs.Kinds.{kind_numbers, kind_limits};
 ghost use Rattle.overview.specs.Picture.{stands};

@@ -1,4 +1,6 @@
 // Cases whose speed is measured: `speed CASE`. What it prints says what was done, and no times.
+#![tactic(auto)]
+
 mod judging;
 mod kinds;
 mod sending;

@@ -5,7 +5,6 @@ use Rattle.traffic.specs.declared.mixture.MixtureState.TheVariants.{OfFirst}
 use Rattle.plan.specs.Format.{Script}
 use Rattle.link.specs.Happenings.{happenings}
 use Rattle.link.specs.History as history
-use Rattle.link.specs.Model.{opened}
 use Rattle.link.specs.Promise.{OnTime}
 use Rattle.whole_answers.specs.Kinds.{LinkCall, LinkModel, LinkRow, LinkHistory, kind_numbers}
 use Rattle.whole_answers.specs.Parts.{Part}

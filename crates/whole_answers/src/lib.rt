@@ -1,4 +1,6 @@
 // What the course program prints: the answers to a plan, line by line.
+#![tactic(auto)]
+
 ghost use Rattle.std.specs.Prelude.{IfOk};
 ghost use Rattle.whole_answers.specs.Answers.{Answered, LeastAnswered, Refused};
 

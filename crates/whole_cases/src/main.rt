@@ -1,4 +1,6 @@
 // Runs the course program's library on worked cases; what it prints is compared.
+#![tactic(auto)]
+
 use std::{fs, io};
 use whole_answers::answer;
 

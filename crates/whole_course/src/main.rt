@@ -1,4 +1,6 @@
 // Reads a plan from standard input and prints the answers, a line each.
+#![tactic(auto)]
+
 use std::io;
 use std::io::Read;
 use whole_answers::answer;

@@ -1,5 +1,7 @@
 // Reads a plan from standard input and prints, for each of its channels in turn, the least allowance that would do beside those
 // joined before it.
+#![tactic(auto)]
+
 use std::io;
 use std::io::Read;
 use whole_answers::least;

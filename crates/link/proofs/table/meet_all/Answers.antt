@@ -1,4 +1,4 @@
-use Rattle.std.proofs.Common.{◌≡◌, ◌++◌, map, get_or, take, drop, set, ap, ◌∙◌, arith, take_all}
+use Rattle.std.proofs.Common.{map, get_or, set, ap, ◌∙◌, arith, take_all}
 use Rattle.std.proofs.lemmas.List.{get_or_default, append-nil, drop_all}
 use Rattle.std.proofs.lemmas.List.Edits.{map_over_more}
 use Rattle.link.specs.Rows.{moved, blank}

@@ -1,4 +1,4 @@
-use Rattle.std.proofs.Common.{◌≡◌, refl}
+use Rattle.std.proofs.Common.{refl}
 use Rattle.link.proofs.Joined.{filled_model}
 use Rattle.link.proofs.state.Link.fill.Goals as goal
 

@@ -1,4 +1,4 @@
-use Rattle.std.proofs.Common.{◌≡◌, sym, ◌∙◌, rules}
+use Rattle.std.proofs.Common.{sym, ◌∙◌}
 use Rattle.link.specs.Rows.{fits}
 use Rattle.link.proofs.Joined.{joined_first}
 use Rattle.link.proofs.Firsts.{take_within}

@@ -1,4 +1,4 @@
-use Rattle.std.proofs.Common.{◌≡◌, length, take, refl, ap, ◌∙◌}
+use Rattle.std.proofs.Common.{length, take, refl, ap, ◌∙◌}
 use Rattle.link.specs.Model.{joined}
 use Rattle.link.proofs.Joined.{joined_blank, opened_model}
 use Rattle.link.proofs.state.Link.fresh.Goals as goal

@@ -1,4 +1,4 @@
-use Rattle.std.proofs.Common.{◌≡◌, refl, ap, ◌∙◌}
+use Rattle.std.proofs.Common.{refl, ap, ◌∙◌}
 use Rattle.link.specs.Model.{joined, model, with_rows}
 use Rattle.link.specs.Rows.{moved}
 use Rattle.link.proofs.Joined.{joined_changed}

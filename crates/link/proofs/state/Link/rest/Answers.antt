@@ -1,4 +1,4 @@
-use Rattle.std.proofs.Common.{◌≡◌, sym, refl, ap, ◌∙◌}
+use Rattle.std.proofs.Common.{sym, refl, ap, ◌∙◌}
 use Rattle.link.specs.Packets.{begun_bulk}
 use Rattle.link.proofs.Slots.{rested}
 use Rattle.link.proofs.state.Link.rest.Goals as goal

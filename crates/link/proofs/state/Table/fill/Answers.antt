@@ -1,4 +1,4 @@
-use Rattle.std.proofs.Common.{◌≡◌, ap, ◌∙◌, length-set, rules}
+use Rattle.std.proofs.Common.{◌≡◌, ◌∙◌, length-set, rules}
 use Rattle.link.specs.declared.state.Phase.TheVariants.{Held}
 use Rattle.link.proofs.Tables.{known_set}
 use Rattle.link.proofs.state.Table.fill.Goals as goal

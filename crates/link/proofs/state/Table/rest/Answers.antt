@@ -1,4 +1,4 @@
-use Rattle.std.proofs.Common.{◌≡◌, true, ◌||◌, length, sym, ap, ◌∙◌}
+use Rattle.std.proofs.Common.{◌≡◌, true, ◌||◌, sym, ap, ◌∙◌}
 use Rattle.link.specs.Rows.{none_leaving}
 use Rattle.link.proofs.Tables.{rest_none, rest_calm}
 use Rattle.link.proofs.state.Table.rest.Goals as goal
