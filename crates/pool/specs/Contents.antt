@@ -5,7 +5,7 @@ use Rattle.pool.specs.declared.Pool.{Pool}
 use Rattle.pool.specs.Elements.{First, head}
 use Rattle.pool.specs.Heap.{Heap}
 
--- the elements of a pool, a bag: every clause compares it up to Shuffled, and where an element lies means nothing
+-- the elements of a pool, a bag: every clause compares it up to IsPermutation, and where an element lies means nothing
 abbrev pub contents : {X : Type 0} → Pool X → List X
 contents p = take p.count p.places.now
 

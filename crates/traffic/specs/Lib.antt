@@ -5,6 +5,7 @@ pub mod Examples
 pub mod Laws
 pub mod Mixture
 pub mod Spaced
+-- lemmas: the laws of the kinds, which the impls in src/ cite
 pub mod Buckets
 pub mod Attained
 pub mod Credits

@@ -16,7 +16,7 @@ returns-then-first-t g c =
     let h = first_pending _ _ p (sym peeked.next) c.requires.sweep in
     record {
       sound = c.requires.sound;
-      advanced = advanced_none _ up _ _ p _ c.if-first-t.true h.not_before peeked.first.1 c.requires.sweep;
+      advanced = advanced_none _ up _ _ p _ (λ e. omega arith) h.not_before peeked.first.1 c.requires.sweep;
     }
 
 pub overflow_add-result : goal.overflow_add-result
@@ -36,5 +36,5 @@ returns g c =
     let r = c.replace.ensures.replaced in
     record {
       sound = c.replace.ensures.sound;
-      advanced = advance_step _ up _ _ c.in_ok-first.first r.first r.rest _ _ c.point_after-next.result (sym c.in_ok-first.ensures.next) r.was r.taken r.put c.if-first-t.false c.point_after-next.ensures c.curve_at-level.ensures.value c.requires.sweep;
+      advanced = advance_step _ up _ _ c.in_ok-first.first r.first r.rest _ _ c.point_after-next.result (sym c.in_ok-first.ensures.next) r.was r.taken r.put (omega arith) c.point_after-next.ensures c.curve_at-level.ensures.value c.requires.sweep;
     }
