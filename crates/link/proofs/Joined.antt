@@ -6,7 +6,7 @@ use Rattle.std.specs.Option.{option_map}
 use Rattle.traffic.specs.declared.Curve.{Ghosts as CurveGhosts}
 use Rattle.traffic.specs.declared.Traffic.{Ghosts as TrafficGhosts}
 use Rattle.traffic.specs.declared.Row.{Row}
-use Rattle.pool.specs.Contents.{contents, capacity}
+use Rattle.pool.specs.Contents.{capacity}
 use Rattle.traffic.specs.Curves.{Numbers}
 use Rattle.verdict.specs.Judged.{Judged}
 use Rattle.verdict.specs.Least.{Least}
@@ -118,30 +118,10 @@ module _ {X S : Type 0} where
 
   -- the model of a link that has so many lent rows, and these rows
   abbrev pub placed : {t : TrafficGhosts X S} {c : CurveGhosts X} → Link X S t c → ℕ → List (FullRow X S) → Model X S
-  placed l n rs = record {
-    terms = terms_of l.name l.longest n (capacity l.waiting);
-    clock = l.clock;
-    serials = l.serials;
-    offers = l.offers;
-    rows = rs;
-    waiting = contents l.waiting;
-    bulk = l.bulk;
-    air = l.air;
-    last = l.last;
-  }
+  placed l n rs = record (model l) { terms = terms_of l.name l.longest n (capacity l.waiting); rows = rs }
 
   abbrev with_serial : Model X S → ℕ → Model X S
-  with_serial m n = record {
-    terms = m.terms;
-    clock = m.clock;
-    serials = n;
-    offers = m.offers;
-    rows = m.rows;
-    waiting = m.waiting;
-    bulk = m.bulk;
-    air = m.air;
-    last = m.last;
-  }
+  with_serial m n = record m { serials = n }
 
   pub stored_model : {t : TrafficGhosts X S} {c : CurveGhosts X} (l : Link X S t c) (i : ℕ) (w : Row X S) →
       placed l (length (set l.rows.now i w)) (joined l.table.records (set l.rows.now i w))

@@ -5,6 +5,7 @@ pub mod Slots
 pub mod Changes
 pub mod Fading
 pub mod Inversions
+pub mod Confirming
 pub mod Filling
 pub mod Standings
 pub mod Queues

@@ -1,14 +1,13 @@
 -- The parts of a tick.
-use Rattle.std.proofs.Common.{◌≡◌, List, map, length, None, Option, ap, ◌∙◌}
+use Rattle.std.proofs.Common.{◌≡◌, List, map, None, Option, ap, ◌∙◌}
 use Rattle.traffic.specs.declared.Curve.{Ghosts as CurveGhosts}
 use Rattle.traffic.specs.declared.Traffic.{Ghosts as TrafficGhosts}
-use Rattle.pool.specs.Contents.{contents, capacity}
 use Rattle.link.specs.declared.state.Air.{Air}
 use Rattle.link.specs.declared.state.Bulk.{Bulk}
 use Rattle.link.specs.declared.state.Event.TheVariants.{Quiet}
 use Rattle.link.specs.declared.state.Link.{Link}
 use Rattle.link.specs.declared.state.Record.{Record}
-use Rattle.link.specs.Model.{Model, FullRow, model, joined, terms_of, on_entry}
+use Rattle.link.specs.Model.{Model, FullRow, model, joined, on_entry}
 use Rattle.link.specs.Packets.{begun_bulk}
 use Rattle.link.specs.Rows.{moved}
 use Rattle.link.specs.Ticking.{quiet}
@@ -17,17 +16,7 @@ use Rattle.link.proofs.Joined.{joined_map}
 module _ {X S : Type 0} where
   -- the model of a link with this table, this bulk packet and this on the air
   abbrev resting : {t : TrafficGhosts X S} {c : CurveGhosts X} → Link X S t c → List (FullRow X S) → Option Bulk → Option Air → Model X S
-  resting l rs b a = record {
-    terms = terms_of l.name l.longest (length l.rows.now) (capacity l.waiting);
-    clock = l.clock;
-    serials = l.serials;
-    offers = l.offers;
-    rows = rs;
-    waiting = contents l.waiting;
-    bulk = b;
-    air = a;
-    last = l.last;
-  }
+  resting l rs b a = record (model l) { rows = rs; bulk = b; air = a }
 
   pub rested : {t : TrafficGhosts X S} {c : CurveGhosts X} (l : Link X S t c) (es : List Record) (b : Option Bulk) (a : Option Air) →
       es ≡ map (moved Quiet) l.table.records → b ≡ None → a ≡ begun_bulk l.bulk →

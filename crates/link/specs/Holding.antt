@@ -27,16 +27,9 @@ module _ {X S : Type 0} where
 
   -- the row at this place held by the mat, with this kind and state
   abbrev pub filled : Model X S → ℕ → ℕ → Row X S → Model X S
-  filled m i mat w = record {
-    terms = m.terms;
-    clock = m.clock;
+  filled m i mat w = record m {
     serials = m.serials + 1;
-    offers = m.offers;
     rows = slice_set m.rows i (record { entry = record { mat = mat; serial = m.serials + 1; phase = Held }; row = w });
-    waiting = m.waiting;
-    bulk = m.bulk;
-    air = m.air;
-    last = m.last;
   }
 
   -- the causes that come before the verdict

@@ -8,6 +8,7 @@ pub mod Sending
 pub mod Ticking
 pub mod Holding
 pub mod Settling
+pub mod Joining
 pub mod Asking
 pub mod Pieces
 pub mod Happenings

@@ -86,25 +86,15 @@ module _ {X S : Type 0} where
 
   -- the model with other rows
   abbrev pub with_rows : Model X S → List (FullRow X S) → Model X S
-  with_rows m rows = record {
-    terms = m.terms;
-    clock = m.clock;
-    serials = m.serials;
-    offers = m.offers;
-    rows = rows;
-    waiting = m.waiting;
-    bulk = m.bulk;
-    air = m.air;
-    last = m.last;
-  }
+  with_rows m rows = record m { rows = rows }
 
   -- a row with its record changed
   abbrev pub on_entry : (Record → Record) → FullRow X S → FullRow X S
-  on_entry f r = record { entry = f r.entry; row = r.row }
+  on_entry f r = record r { entry = f r.entry }
 
   -- a row with another kind and state
   abbrev pub on_row : Row X S → FullRow X S → FullRow X S
-  on_row w r = record { entry = r.entry; row = w }
+  on_row w r = record r { row = w }
 
   -- the place of the row looked for
   abbrev pub find : Sought → Model X S → Option ℕ

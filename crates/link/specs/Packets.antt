@@ -49,7 +49,7 @@ told a = record { mat = a.mat; piece = a.sent; ended = ends a }
 
 -- what is on the air after the slot
 abbrev pub after : Air → Option Air
-after a = cond (ends a) None (Some (record { mat = a.mat; place = a.place; bytes = a.bytes; sent = a.sent + 1 }))
+after a = cond (ends a) None (Some (record a { sent = a.sent + 1 }))
 
 -- how many packets are on the air
 abbrev pub on_air : Option Air → ℕ

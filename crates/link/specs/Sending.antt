@@ -19,17 +19,7 @@ use Rattle.link.specs.Rows.{changed, is_live}
 module _ {X S : Type 0} where
   -- one more accepted packet, with this waiting list
   abbrev pub queued : Model X S → List Packet → Model X S
-  queued m ps = record {
-    terms = m.terms;
-    clock = m.clock;
-    serials = m.serials;
-    offers = m.offers + 1;
-    rows = m.rows;
-    waiting = ps;
-    bulk = m.bulk;
-    air = m.air;
-    last = m.last;
-  }
+  queued m ps = record m { offers = m.offers + 1; waiting = ps }
 
   module _ (numbers : X → Numbers) (limits : X → ℕ → Bool) (steps : X → Steps S) where
     -- the row after its kind's step, and when the packet is due; none if the kind does not take it
@@ -78,17 +68,7 @@ module _ {X S : Type 0} where
 
   -- the model with a bulk packet that waits for a quiet slot
   abbrev pub with_bulk : Model X S → Bulk → Model X S
-  with_bulk m b = record {
-    terms = m.terms;
-    clock = m.clock;
-    serials = m.serials;
-    offers = m.offers;
-    rows = m.rows;
-    waiting = m.waiting;
-    bulk = Some b;
-    air = m.air;
-    last = m.last;
-  }
+  with_bulk m b = record m { bulk = Some b }
 
   -- one bulk packet waits at a time
   abbrev pub bulk_waits : Model X S → Bulk → Option Bulk → Result (Model X S) Refusal

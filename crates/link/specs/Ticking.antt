@@ -22,31 +22,11 @@ carried_on (Some a) = after a
 module _ {X S : Type 0} where
   -- a waiting packet goes on the air, and these wait on
   abbrev pub going : Model X S → Packet → List Packet → Model X S
-  going m p ps = record {
-    terms = m.terms;
-    clock = m.clock;
-    serials = m.serials;
-    offers = m.offers;
-    rows = m.rows;
-    waiting = ps;
-    bulk = m.bulk;
-    air = Some (begun p);
-    last = m.last;
-  }
+  going m p ps = record m { waiting = ps; air = Some (begun p) }
 
   -- a quiet slot: every leaving row becomes free, and the bulk packet goes on the air if there is one
   abbrev pub quiet : Model X S → Model X S
-  quiet m = record {
-    terms = m.terms;
-    clock = m.clock;
-    serials = m.serials;
-    offers = m.offers;
-    rows = map (on_entry (moved Quiet)) m.rows;
-    waiting = m.waiting;
-    bulk = None;
-    air = begun_bulk m.bulk;
-    last = m.last;
-  }
+  quiet m = record m { rows = map (on_entry (moved Quiet)) m.rows; bulk = None; air = begun_bulk m.bulk }
 
   -- the start of a slot: what is on the air stays; else a packet goes on that none of those waiting precedes; if none waits, the slot is quiet
   abbrev pub Begins : Option Air → Model X S → Model X S → Type 0
@@ -57,17 +37,7 @@ module _ {X S : Type 0} where
 
   -- the clock rises by one, and the packet on the air has sent one slot more
   abbrev pub passed : Model X S → Model X S
-  passed m = record {
-    terms = m.terms;
-    clock = m.clock + 1;
-    serials = m.serials;
-    offers = m.offers;
-    rows = m.rows;
-    waiting = m.waiting;
-    bulk = m.bulk;
-    air = carried_on m.air;
-    last = m.air;
-  }
+  passed m = record m { clock = m.clock + 1; air = carried_on m.air; last = m.air }
 
   -- why a tick is refused, if it is
   abbrev pub tick_cause : Model X S → Option Refusal

@@ -4,6 +4,7 @@ ghost use Rattle.link.specs.Model.{model};
 ghost use Rattle.link.specs.Memory.{Kept, NothingLent, RowsOnly};
 ghost use Rattle.link.specs.Asking.{Stretches, Leasts};
 ghost use Rattle.link.specs.Holding.{Holds};
+ghost use Rattle.link.specs.Joining.{Joined};
 ghost use Rattle.link.specs.Settling.{Confirms, Cancels, Releases};
 
 use crate::packets::is_mat;
@@ -65,6 +66,19 @@ impl<'a, K: Traffic> Link<'a, K> {
         } = hold;
         self.meet(i, Event::Confirm);
         Ok(())
+    }
+
+    // Holds a row and confirms the hold, which is always granted; gives the count of points.
+    pub fn join(&mut self, mat: Mat, kind: K) -> Result<u32, Refusal>
+        ensures said { Joined K.Curve.numbers K.Curve.limits K.Traffic.steps (model self.old) mat kind result (model self.new) }
+        ensures kept { Kept result self.old self.new }
+        ensures lent { RowsOnly self.old self.new }
+    {
+        let (hold, count) = self.hold(mat, kind)?;
+        match self.confirm(hold) {
+            Ok(()) => Ok(count),
+            Err(_) => unreachable!(),
+        }
     }
 
     // Frees the held row of this hold; the hold is spent, also where it is refused.

@@ -12,7 +12,7 @@ use traffic::{Row, Traffic};
 // The number of a mat: 1 to 255, and 0 stands for bulk.
 pub type Mat = u8;
 
-#[derive(Clone, Copy)]
+#[derive(Clone, Copy, PartialEq, Eq)]
 pub(crate) enum Phase {
     Free,
     Held,
@@ -21,7 +21,7 @@ pub(crate) enum Phase {
 }
 
 // What a row meets.
-#[derive(Clone, Copy)]
+#[derive(Clone, Copy, PartialEq, Eq)]
 pub(crate) enum Event {
     Hold,
     Confirm,
@@ -53,8 +53,8 @@ pub struct Hold {
     pub(crate) serial: u32,
 }
 
-// A packet that waits, with its due slot and how many packets were accepted before it.
-#[derive(Clone, Copy)]
+// A packet that waits, with its due slot and how many packets were accepted before it; the default fills a place that is lent.
+#[derive(Clone, Copy, Default)]
 pub struct Packet {
     pub due: u32,
     pub mat: Mat,
