@@ -7,29 +7,21 @@ ghost use Rattle.schedule.specs.Theorems.{OnEveryLink, SomeSchedule, OnTime, Nee
 use traffic::Traffic;
 
 // Whatever arrives has a proper schedule, whether the channels pass or not.
-pub fn some_schedule<K: Traffic>() -> u8
+pub fn some_schedule<K: Traffic>()
     ensures { OnEveryLink K.Curve.limits (SomeSchedule K.Curve.numbers K.Traffic.steps) }
-{
-    0
-}
+{}
 
 // Where the channels pass, whatever arrives has a proper schedule in which nothing is late.
-pub fn on_time<K: Traffic>() -> u8
+pub fn on_time<K: Traffic>()
     ensures { OnEveryLink K.Curve.limits (OnTime K.Curve.numbers K.Traffic.steps) }
-{
-    0
-}
+{}
 
 // Where they do not pass, some arrivals make every proper schedule late.
-pub fn needed<K: Traffic>() -> u8
+pub fn needed<K: Traffic>()
     ensures { OnEveryLink K.Curve.limits (Needed K.Curve.numbers K.Traffic.steps) }
-{
-    0
-}
+{}
 
 // The theorems are not empty: a channel that passes, with arrivals and their schedule, and one that fails by one slot.
-pub fn examples_stand() -> u8
+pub fn examples_stand()
     ensures { Examples }
-{
-    0
-}
+{}

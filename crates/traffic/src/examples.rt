@@ -8,29 +8,21 @@ use crate::mixture::Mixture;
 use crate::spaced::Spaced;
 
 // The worked lists of packets are as told: lawful, asking for so much of what the curve allows, or refused.
-pub fn examples_stand() -> u8
+pub fn examples_stand()
     ensures { Examples }
-{
-    0
-}
+{}
 
 // No kind whose step takes nothing keeps the laws.
-pub fn idle_shut_out<S>() -> u8
+pub fn idle_shut_out<S>()
     ensures { IdleShutOut S }
-{
-    0
-}
+{}
 
 // A mixture of mixtures steps as the kind inside it: packets in slots 3, 12 and 13, the second a slot too early.
 pub fn nested_steps() -> (bool, bool, bool)
     ensures { result ≡ (true, false, true) }
 {
-    let inner = Spaced {
-        period: 10,
-        longest: 2,
-        allowance: 5,
-    };
-    let kind: Mixture<Mixture<Spaced, Bucket>, Spaced> = Mixture::First(Mixture::First(inner));
+    let inner = Mixture::<Spaced, Bucket>::spaced(10, 2, 5);
+    let kind: Mixture<Mixture<Spaced, Bucket>, Spaced> = Mixture::First(inner);
     let mut state = kind.fresh();
     let first = kind.step(&mut state, 3, 2);
     let early = kind.step(&mut state, 12, 2);

@@ -2,8 +2,11 @@
 ghost use Rattle.traffic.specs.Mixture.{mixed_numbers, mixed_limits, mixed_dated, mixed_steps};
 ghost use Rattle.traffic.specs.declared.mixture.Mixture.TheVariants.{First, Second};
 ghost use Rattle.traffic.specs.Mixing.{first_sound, second_sound, first_steps, second_steps};
+ghost use Rattle.std.specs.Prelude.{◌≡◌};
 ghost use Rattle.std.proofs.Common.{ap};
 
+use crate::bucket::Bucket;
+use crate::spaced::Spaced;
 use crate::{Curve, Traffic};
 
 #[derive(Clone, Copy)]
@@ -16,6 +19,31 @@ pub enum Mixture<K, L> {
 pub enum MixtureState<S, U> {
     OfFirst(S),
     OfSecond(U),
+}
+
+impl Mixture<Spaced, Bucket> {
+    // Packets of at most `longest` slots, at least a period apart.
+    pub fn spaced(period: u32, longest: u32, allowance: u32) -> Mixture<Spaced, Bucket>
+        ensures { result ≡ First (record { period = period; longest = longest; allowance = allowance }) }
+    {
+        Mixture::First(Spaced {
+            period,
+            longest,
+            allowance,
+        })
+    }
+
+    // Up to `depth` packets at once, and one more every period.
+    pub fn bucket(period: u32, longest: u32, depth: u32, allowance: u32) -> Mixture<Spaced, Bucket>
+        ensures { result ≡ Second (record { period = period; longest = longest; depth = depth; allowance = allowance }) }
+    {
+        Mixture::Second(Bucket {
+            period,
+            longest,
+            depth,
+            allowance,
+        })
+    }
 }
 
 impl<K: Curve, L: Curve> Curve for Mixture<K, L> {
