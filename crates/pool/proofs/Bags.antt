@@ -1,41 +1,29 @@
--- What `put` and `take` do to the contents, and to the places past them.
-use Rattle.std.proofs.Common.{◌≡◌, ℕ, zero, suc, ◌+◌, ◌<◌, ◌≤◌, List, [], ◌∷◌, ◌++◌, length, get_or, take, drop, set, sym, refl, ap, ◌∙◌, subst, add-one, arith, take-suc}
+-- What `insert` and `remove_first` do to the elements, and `take` to the places past them.
+use Rattle.std.proofs.Common.{◌≡◌, ℕ, ◌+◌, ◌-◌, ◌<◌, ◌≤◌, List, [], ◌∷◌, ◌++◌, length, get_or, take, drop, set, ap, ◌∙◌, sym, arith}
 use Rattle.std.specs.List.Sorted.{IsPermutation}
-use Rattle.std.proofs.lemmas.List.{take_at, take_more_set, drop_at, drop-set-lt}
-use Rattle.std.proofs.lemmas.List.Sorted.{IsPermutation-trans, IsPermutation-sym, IsPermutation-cons, IsPermutation-to_front, IsPermutation-refl}
+use Rattle.std.proofs.lemmas.List.{take_all, take_more_set, take-append-drop, drop-append-le, length-set, length-take-le, get_or_read}
+use Rattle.std.proofs.lemmas.List.Sorted.{IsPermutation-trans, IsPermutation-sym, IsPermutation-cons, IsPermutation-to_front, IsPermutation-swap_remove}
 
-pub put_bag : {X : Type 0} (xs rs rest : List X) (n m : ℕ) (x : X) → n < length xs → m ≡ n + 1 → length rs ≡ m → IsPermutation (take m (set xs n x)) rs → IsPermutation (x ∷ take n xs) (take (n + 1) (rs ++ rest))
-put_bag xs rs rest n m x lt e size h =
-    let was : take m (set xs n x) ≡ take n xs ++ x ∷ [] = ap (λ j. take j (set xs n x)) e ∙ take_more_set xs n x lt in
-    let is : take (n + 1) (rs ++ rest) ≡ rs = take_at rs rest (n + 1) (size ∙ e) in
-    rw is (IsPermutation-trans _ _ _ (IsPermutation-sym _ _ (IsPermutation-to_front (take n xs) x)) (rw was at h))
+module _ {X : Type 0} where
+  -- the element comes into the last place, and then all are moved
+  pub insert_bag : (xs ys : List X) (x : X) → 0 < length xs → IsPermutation (set xs (length xs - 1) x) ys → IsPermutation (x ∷ take (length xs - 1) xs) ys
+  insert_bag xs ys x pos h =
+      let last : ℕ = length xs - 1 in
+      let all : take (last + 1) (set xs last x) ≡ set xs last x = take_all (last + 1) (set xs last x) (rw length-set (omega arith)) in
+      let is : set xs last x ≡ take last xs ++ x ∷ [] = sym all ∙ take_more_set xs last x (omega arith) in
+      IsPermutation-trans _ _ _ (IsPermutation-sym _ _ (IsPermutation-to_front (take last xs) x)) (rw is at h)
 
-pub put_beyond : {X : Type 0} (xs rs : List X) (n m : ℕ) (x : X) → m ≡ n + 1 → length rs ≡ m → drop (n + 1) (rs ++ drop m (set xs n x)) ≡ drop (n + 1) xs
-put_beyond xs rs n m x e size =
-    drop_at rs (drop m (set xs n x)) (n + 1) (size ∙ e) ∙ (ap (λ j. drop j (set xs n x)) e ∙ drop-set-lt (n + 1) xs n x (omega arith))
+  -- the last element e comes into place 0, from which x leaves, and then the others are moved
+  pub remove_bag : (xs ys : List X) (x e : X) → 0 < length xs → x ≡ get_or xs 0 x → e ≡ get_or xs (length xs - 1) e → IsPermutation (take (length xs - 1) (set xs 0 e)) ys → IsPermutation xs (x ∷ ys)
+  remove_bag xs ys x e pos first last h =
+      let is : e ≡ get_or xs (length xs - 1) x = get_or_read xs (length xs - 1) e (omega arith) last x in
+      IsPermutation-trans _ _ _ (IsPermutation-swap_remove xs 0 x pos first) (IsPermutation-cons x _ _ (rw is at h))
 
--- the element in place 0 leaves, and the one in place m comes there
-first_out : {X : Type 0} (xs : List X) (m : ℕ) (top e : X) → m < length xs → top ≡ get_or xs 0 top → e ≡ get_or xs m e → IsPermutation (take (suc m) xs) (top ∷ take m (set xs 0 e))
-first_out [] m top e lt t l = absurd (omega arith)
-first_out (a ∷ tl) zero top e lt t l = subst (λ y. IsPermutation (a ∷ []) (y ∷ [])) (sym t) (IsPermutation-refl (a ∷ []))
-first_out (a ∷ tl) (suc j) top e lt t l =
-    let lt' : j < length tl = omega arith in
-    let is : take (suc j) tl ≡ take j tl ++ e ∷ [] = take-suc tl j e lt' ∙ ap (λ y. take j tl ++ y ∷ []) (sym l) in
-    subst (λ y. IsPermutation (a ∷ take (suc j) tl) (y ∷ e ∷ take j tl)) (sym t)
-    (IsPermutation-cons a _ _ (subst (λ ys. IsPermutation ys (e ∷ take j tl)) (sym is) (IsPermutation-to_front (take j tl) e)))
-
-pub take_bag : {X : Type 0} (xs rs rest : List X) (n m m' : ℕ) (top e : X) → m + 1 ≡ n → m' ≡ m → n ≤ length xs → top ≡ get_or xs 0 top → e ≡ get_or xs m e → length rs ≡ m' → IsPermutation (take m' (set xs 0 e)) rs → IsPermutation (take n xs) (top ∷ take m (rs ++ rest))
-take_bag xs rs rest n m m' top e size same le t l long h =
-    let is : take m (rs ++ rest) ≡ rs = take_at rs rest m (long ∙ same) in
-    let was : take n xs ≡ take (suc m) xs = ap (λ j. take j xs) (sym size ∙ add-one m) in
-    rw (is, was) (IsPermutation-trans _ _ _ (first_out xs m top e (omega arith) t l) (IsPermutation-cons top _ _ (subst (λ j. IsPermutation (take j (set xs 0 e)) rs) same h)))
-
--- place 0 is past the contents only where the element that comes there is the one that left
-past_set : {X : Type 0} (xs : List X) (m : ℕ) (e : X) → e ≡ get_or xs m e → drop m (set xs 0 e) ≡ drop m xs
-past_set [] m e l = refl
-past_set (a ∷ tl) zero e l = ap (λ y. y ∷ tl) l
-past_set (a ∷ tl) (suc m) e l = refl
-
-pub take_beyond : {X : Type 0} (xs rs : List X) (m m' : ℕ) (e : X) → m' ≡ m → length rs ≡ m' → e ≡ get_or xs m e → drop m (rs ++ drop m' (set xs 0 e)) ≡ drop m xs
-take_beyond xs rs m m' e same long l =
-    drop_at rs (drop m' (set xs 0 e)) m (long ∙ same) ∙ (ap (λ j. drop j (set xs 0 e)) same ∙ past_set xs m e l)
+  -- ys lie in the places of the first n of xs, and the last of them is as it was
+  pub last_kept : (xs ys : List X) (n : ℕ) → n ≤ length xs → length ys ≡ length (take n xs) → drop (length (take n xs) - 1) ys ≡ drop (length (take n xs) - 1) (take n xs) → drop (n - 1) (ys ++ drop n xs) ≡ drop (n - 1) xs
+  last_kept xs ys n fits size h =
+      let long : length (take n xs) ≡ n = length-take-le n xs fits in
+      drop-append-le (n - 1) ys (drop n xs) (omega arith)
+      ∙ (ap (λ zs. zs ++ drop n xs) (rw long at h)
+      ∙ (sym (drop-append-le (n - 1) (take n xs) (drop n xs) (omega arith))
+      ∙ ap (drop (n - 1)) (take-append-drop n xs)))

@@ -1,12 +1,12 @@
 -- An element moves down: what is left to mend stays in one place.
 use Rattle.std.proofs.Common.{◌≡◌, ℕ, ◌+◌, ◌*◌, ◌<◌, ◌≤◌, Bool, true, false, List, get_or, refl, ap, ◌∙◌, ⊎_elim, arith}
 use Rattle.std.proofs.lemmas.Bool.{cases_eq}
-use Rattle.pool.specs.Heap.{Pairs, Sinking, Best}
+use Rattle.pool.specs.Heap.{Heap, Sinking, Best}
 use Rattle.pool.proofs.Orders.{Asymmetric, Transitive, both}
 use Rattle.pool.proofs.Rises.{Traded}
 
 module _ {X : Type 0} (before : X → X → Bool) (asym : Asymmetric before) (trans : Transitive before) where
-  pub sink_rests : (xs : List X) (i c n : ℕ) → ((d : X) → before (get_or xs c d) (get_or xs i d) ≡ false) → Best before xs i c n → Sinking before xs i n → Pairs before xs n
+  pub sink_rests : (xs : List X) (i c n : ℕ) → ((d : X) → before (get_or xs c d) (get_or xs i d) ≡ false) → Best before xs i c n → Sinking before xs i n → Heap before xs n
   sink_rests xs i c n fine best h p k d g l b =
       ⊎_elim
       (λ pi. both before {c = get_or xs p d} {e = get_or xs i d} refl (ap (λ m. get_or xs m d) pi) (trans (get_or xs i d) (get_or xs c d) (get_or xs k d) (fine d) (best k d (omega arith) (omega arith) b)))

@@ -1,13 +1,9 @@
 -- A list as a binary heap: the children of the place i are i * 2 + 1 and i * 2 + 2, and `before x y` says that x goes first.
-use Rattle.std.specs.Prelude.{◌≡◌, ℕ, ◌+◌, ◌*◌, ◌/◌, ◌<◌, ◌≤◌, Bool, false, List, ◌≢◌, slice_index_or}
+use Rattle.std.specs.Prelude.{◌≡◌, ℕ, ◌+◌, ◌*◌, ◌<◌, ◌≤◌, Bool, false, List, ◌≢◌, slice_index_or}
 
--- of the first n elements none goes before its parent (in a form that a ghost field may state)
+-- of the first n elements none, at a place k, goes before its parent, at the place p
 abbrev pub Heap : {X : Type 0} → (X → X → Bool) → List X → ℕ → Type 0
-Heap {X} before xs n = (k : ℕ) (d : X) → k + 1 < n → before (slice_index_or xs (k + 1) d) (slice_index_or xs (k / 2) d) ≡ false
-
--- the same, said of each parent p and child k
-abbrev pub Pairs : {X : Type 0} → (X → X → Bool) → List X → ℕ → Type 0
-Pairs {X} before xs n =
+Heap {X} before xs n =
     (p k : ℕ) (d : X) → p * 2 + 1 ≤ k → k ≤ p * 2 + 2 → k < n → before (slice_index_or xs k d) (slice_index_or xs p d) ≡ false
 
 -- no child of i goes before the parent of i

@@ -1,58 +1,54 @@
 // A heap in the first places of a slice, mended along one path. The children of the place i are i * 2 + 1 and i * 2 + 2.
-ghost use Rattle.std.specs.Prelude.{◌≡◌, ◌+◌, ◌-◌, ◌*◌, ◌<◌, ◌≤◌, ◌∷◌, length, take, drop, Some};
+ghost use Rattle.std.specs.Prelude.{◌≡◌, ◌+◌, ◌-◌, ◌*◌, ◌<◌, ◌≤◌, ◌∷◌, length, take, drop, Some, IfSome};
 ghost use Rattle.std.specs.List.Sorted.{IsPermutation};
-ghost use Rattle.pool.specs.Heap.{Heap, Pairs, Sinking, Best};
+ghost use Rattle.pool.specs.Heap.{Heap, Sinking, Best};
 ghost use Rattle.pool.specs.Elements.{First, head};
 
 use crate::Ordered;
 
-// The element in place 0: none in the heap of the first `count` places goes before it.
-pub fn first<T: Ordered>(s: &[T], count: usize) -> T
-    requires some { 0 < count }
-    requires room { count ≤ length s.now }
-    requires heap { Heap T.Ordered.before s.now count }
-    ensures head { Some result ≡ head (take count s.now) }
-    ensures first { First T.Ordered.before result (take count s.now) }
+// The element in place 0, if any: none in the heap goes before it.
+pub fn first<T: Ordered>(s: &[T]) -> Option<T>
+    requires { Heap T.Ordered.before s.now (length s.now) }
+    ensures head { result ≡ head s.now }
+    ensures first { IfSome result (λ x. First T.Ordered.before x s.now) }
 {
-    s[0]
+    s.first().copied()
 }
 
-// Adds the element to the heap of the first `count` places.
-pub fn insert<T: Ordered>(s: &mut [T], count: usize, element: T)
-    requires room { count < length s.old }
-    requires heap { Heap T.Ordered.before s.old count }
-    ensures heap { Heap T.Ordered.before s.new (count + 1) }
-    ensures bag { IsPermutation (element ∷ take count s.old) (take (count + 1) s.new) }
-    ensures beyond { drop (count + 1) s.new ≡ drop (count + 1) s.old }
+// Adds the element in the last place; the others are a heap.
+pub fn insert<T: Ordered>(s: &mut [T], element: T)
+    requires some { 0 < length s.old }
+    requires heap { Heap T.Ordered.before s.old (length s.old - 1) }
+    ensures heap { Heap T.Ordered.before s.new (length s.old) }
+    ensures bag { IsPermutation (element ∷ take (length s.old - 1) s.old) s.new }
 {
-    s[count] = element;
-    rise(&mut s[0..count + 1]);
+    let last = s.len() - 1;
+    s[last] = element;
+    rise(s);
 }
 
-// Removes the element in place 0 from the heap of the first `count` places.
-pub fn remove_first<T: Ordered>(s: &mut [T], count: usize) -> T
-    requires some { 0 < count }
-    requires room { count ≤ length s.old }
-    requires heap { Heap T.Ordered.before s.old count }
-    ensures heap { Heap T.Ordered.before s.new (count - 1) }
-    ensures head { Some result ≡ head (take count s.old) }
-    ensures first { First T.Ordered.before result (take count s.old) }
-    ensures bag { IsPermutation (take count s.old) (result ∷ take (count - 1) s.new) }
-    ensures beyond { drop (count - 1) s.new ≡ drop (count - 1) s.old }
+// Removes the element in place 0 from the heap: the others are a heap without the last place.
+pub fn remove_first<T: Ordered>(s: &mut [T]) -> T
+    requires some { 0 < length s.old }
+    requires heap { Heap T.Ordered.before s.old (length s.old) }
+    ensures heap { Heap T.Ordered.before s.new (length s.old - 1) }
+    ensures head { Some result ≡ head s.old }
+    ensures first { First T.Ordered.before result s.old }
+    ensures bag { IsPermutation s.old (result ∷ take (length s.old - 1) s.new) }
+    ensures last { drop (length s.old - 1) s.new ≡ drop (length s.old - 1) s.old }
 {
-    let first = first(s, count);
-    let last = count - 1;
-    let end = s[last];
-    s[0] = end;
-    sink(&mut s[0..last]);
+    let first = s[0];
+    let last = s.len() - 1;
+    s[0] = s[last];
+    sink(&mut s[..last]);
     first
 }
 
 // Moves the last element up to where it belongs; the others are a heap.
 fn rise<T: Ordered>(s: &mut [T])
     requires some { 0 < length s.old }
-    requires heap { Pairs T.Ordered.before s.old (length s.old - 1) }
-    ensures heap { Pairs T.Ordered.before s.new (length s.old) }
+    requires heap { Heap T.Ordered.before s.old (length s.old - 1) }
+    ensures heap { Heap T.Ordered.before s.new (length s.old) }
     ensures bag { IsPermutation s.old s.new }
 {
     let mut i = s.len() - 1;
@@ -71,7 +67,7 @@ fn rise<T: Ordered>(s: &mut [T])
 // Moves the element in place 0 down to where it belongs; below it all is a heap.
 fn sink<T: Ordered>(s: &mut [T])
     requires { Sinking T.Ordered.before s.old 0 (length s.old) }
-    ensures heap { Pairs T.Ordered.before s.new (length s.old) }
+    ensures heap { Heap T.Ordered.before s.new (length s.old) }
     ensures bag { IsPermutation s.old s.new }
 {
     let mut i = 0;

@@ -1,8 +1,8 @@
 // The ordered pool: a binary heap over a lent slice. Of its elements, one that no other precedes is taken next.
 #![tactic(auto)]
 
-ghost use Rattle.std.specs.Prelude.{◌≡◌, Bool, true, false, ◌==◌};
-ghost use Rattle.pool.specs.Contents.{capacity, Sound, Put, Taken, Peeked, next, BeyondKept};
+ghost use Rattle.std.specs.Prelude.{◌≡◌, ◌≤◌, Bool, true, false, ◌==◌, length};
+ghost use Rattle.pool.specs.Heap.{Heap};
 
 mod heap;
 
@@ -25,15 +25,18 @@ pub trait Ordered: Copy {
 
 // The elements lie in the first `count` places, as a heap.
 #[derive(Drop)]
-pub struct Pool<'a, T> {
+pub struct Pool<'a, T: Ordered> {
     places: &'a mut [T],
     count: usize,
+    pub ghost fits: { count ≤ length places.now },
+    pub ghost heap: { Heap T.Ordered.before places.now count },
 }
 
 impl<'a, T: Ordered> Pool<'a, T> {
+    ghost use Rattle.pool.specs.Contents.{capacity, Put, Taken, Peeked, next, BeyondKept};
+
     // An empty pool with a place for each element of the slice.
     pub fn new(places: &'a mut [T]) -> Pool<'a, T>
-        ensures sound { Sound T.Ordered.before result }
         ensures empty { result.count ≡ 0 }
         ensures memory { result.places.now ≡ places.old }
         ensures lender { result.places.ghost_name ≡ places.entry.ghost_name }
@@ -71,20 +74,14 @@ impl<'a, T: Ordered> Pool<'a, T> {
 
     // The element that `take` would remove.
     pub fn peek(&self) -> Option<T>
-        requires { Sound T.Ordered.before self.now }
         ensures next { result ≡ next self.now }
         ensures first { Peeked T.Ordered.before self.now result }
     {
-        if self.is_empty() {
-            return None;
-        }
-        Some(heap::first(self.places, self.count))
+        heap::first(&self.places[..self.count])
     }
 
     // Adds the element, or gives it back where all places are taken. It moves up one path of the heap: O(log n).
     pub fn put(&mut self, element: T) -> Result<(), T>
-        requires { Sound T.Ordered.before self.old }
-        ensures sound { Sound T.Ordered.before self.new }
         ensures put { Put element self.old self.new result }
         ensures beyond { BeyondKept self.old self.new }
         ensures lender { self.new.places.ghost_name ≡ self.old.places.ghost_name }
@@ -92,16 +89,14 @@ impl<'a, T: Ordered> Pool<'a, T> {
         if self.is_full() {
             return Err(element);
         }
-        let count = self.count;
-        heap::insert(self.places, count, element);
-        self.count = count + 1;
+        let count = self.count + 1;
+        heap::insert(&mut self.places[..count], element);
+        self.count = count;
         Ok(())
     }
 
     // Removes an element that no other precedes. The last one moves down one path of the heap: O(log n).
     pub fn take(&mut self) -> Option<T>
-        requires { Sound T.Ordered.before self.old }
-        ensures sound { Sound T.Ordered.before self.new }
         ensures next { result ≡ next self.old }
         ensures taken { Taken T.Ordered.before self.old self.new result }
         ensures beyond { BeyondKept self.old self.new }
@@ -111,8 +106,7 @@ impl<'a, T: Ordered> Pool<'a, T> {
             return None;
         }
         let count = self.count;
-        let first = heap::remove_first(self.places, count);
         self.count = count - 1;
-        Some(first)
+        Some(heap::remove_first(&mut self.places[..count]))
     }
 }

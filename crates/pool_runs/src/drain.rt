@@ -1,7 +1,7 @@
 // Filling a pool with samples, and emptying it in order.
 ghost use Rattle.std.specs.Prelude.{◌≡◌, ◌+◌, ◌-◌, ◌<◌, ◌≤◌, length, take};
 ghost use Rattle.std.specs.List.Sorted.{IsPermutation, IsSortedWithin};
-ghost use Rattle.pool.specs.Contents.{contents, capacity, Sound};
+ghost use Rattle.pool.specs.Contents.{contents, capacity};
 
 use pool::{Ordered, Pool};
 
@@ -13,8 +13,6 @@ pub trait Sample: Ordered {
 
 // Offers so many samples, and answers how many were refused: those for which there was no place.
 pub fn fill<T: Sample>(pool: &mut Pool<T>, offers: u16) -> u16
-    requires { Sound T.Ordered.before pool.old }
-    ensures sound { Sound T.Ordered.before pool.new }
     ensures capacity { capacity pool.new ≡ capacity pool.old }
     ensures count { pool.new.count + result ≡ pool.old.count + offers }
     ensures refused { result ≡ offers - (capacity pool.old - pool.old.count) }
@@ -30,8 +28,7 @@ pub fn fill<T: Sample>(pool: &mut Pool<T>, offers: u16) -> u16
 
 // Takes all elements out: the first places of `out` then hold them, in order.
 pub fn drain<T: Ordered>(pool: &mut Pool<T>, out: &mut [T]) -> usize
-    requires sound { Sound T.Ordered.before pool.old }
-    requires room { pool.old.count ≤ length out.old }
+    requires { pool.old.count ≤ length out.old }
     ensures empty { pool.new.count ≡ 0 }
     ensures count { result ≡ pool.old.count }
     ensures order { IsSortedWithin T.Ordered.before out.new 0 result }

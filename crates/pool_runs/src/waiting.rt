@@ -1,18 +1,14 @@
 // A list of waiting packets that owns a pool: its calls ask nothing of the caller.
-ghost use Rattle.std.specs.Prelude.{◌≡◌, ◌≤◌};
-ghost use Rattle.pool.specs.Heap.{Heap};
-ghost use Rattle.pool.specs.Contents.{capacity, Put, Taken, next};
+ghost use Rattle.std.specs.Prelude.{◌≡◌};
+ghost use Rattle.pool.specs.Contents.{Put, Taken, next};
 ghost use Rattle.pool_runs.specs.Orders.{packet_before};
 
 use crate::packet::Packet;
 use pool::Pool;
 
-// The ghost fields are the two parts of what the pool's calls ask for.
 #[derive(Drop)]
 pub struct Waiting<'a> {
     pool: Pool<'a, Packet>,
-    ghost fits: { pool.count ≤ capacity pool },
-    ghost heap: { Heap packet_before pool.places.now pool.count },
 }
 
 impl<'a> Waiting<'a> {

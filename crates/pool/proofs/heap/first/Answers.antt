@@ -1,12 +1,10 @@
-use Rattle.pool.proofs.Roots.{root_first, root_heads}
+use Rattle.std.proofs.Common.{rules, ◌≡◌}
+use Rattle.pool.specs.Elements.{head}
+use Rattle.pool.proofs.Roots.{head_first}
 use Rattle.pool.proofs.heap.first.Goals as goal
 
-pub returns : goal.returns
-returns g c =
-    let xs = c.args.s.now in
-    let n = c.args.count in
+pub returns-clause-first : goal.returns-clause-first
+returns-clause-first g c =
     let law = g.met.T.Ordered in
-    record {
-      head = root_heads xs n _ c.requires.some c.requires.room c.index-s-0.is;
-      first = root_first g.T.Ordered.before law.asymmetric law.transitive xs n _ c.requires.some c.requires.room c.index-s-0.is c.requires.heap;
-    }
+    let is : c.copied.result ≡ head c.args.s.now = search rules in
+    rw is (head_first g.T.Ordered.before law.asymmetric law.transitive c.args.s.now c.requires)
