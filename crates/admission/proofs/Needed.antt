@@ -1,12 +1,12 @@
 -- From the condition to schedules: the verdict and the least allowance are exact.
-use Rattle.std.proofs.Common.{ℕ, Bool, true, false, not, List, Ok, Err, Decides, Result, refl, arith}
+use Rattle.std.proofs.Common.{ℕ, Bool, true, false, not, List, Ok, Err, Decides, Result, is_ok, refl, arith}
 use Rattle.std.proofs.lemmas.Bool.{false≢true}
 use Rattle.traffic.specs.Arrivals.{Steps}
 use Rattle.traffic.specs.Curves.{Numbers}
-use Rattle.verdict.specs.Judged.{Judgeable, granted, Exact}
+use Rattle.verdict.specs.Judged.{Judgeable, Exact}
 use Rattle.verdict.specs.Least.{Least}
-use Rattle.verdict.specs.declared.Verdict.{Verdict}
-use Rattle.verdict.specs.declared.Verdict.TheVariants.{Granted, OutsideLimits, Overloaded, Late}
+use Rattle.verdict.specs.declared.Unfit.{Unfit}
+use Rattle.verdict.specs.declared.Unfit.TheVariants.{OutsideLimits, Overloaded, Late}
 use Rattle.verdict.proofs.Lengthening.{Lawful, passes_raised, beside_judgeable, longest_most}
 use Rattle.schedule.specs.Theorems.{OnLink, OnEveryLink, OnTime, Needed}
 use Rattle.admission.specs.Exact.{Needful, LeastExact}
@@ -20,11 +20,11 @@ module _ {K S : Type 0} (m : K → Numbers) (steps : K → Steps S) (limits : K 
   on_link : {p rows : ℕ} {ks : List K} → Judgeable limits p rows ks → OnLink limits p ks
   on_link j = record { least = j.least; most = j.most; within = j.within }
 
-  pub exact_needful : (p rows : ℕ) (ks : List K) (v : Verdict) → Exact m limits p rows ks v → Needful m steps limits p rows ks v
+  pub exact_needful : (p rows : ℕ) (ks : List K) (v : Result ℕ Unfit) → Exact m limits p rows ks v → Needful m steps limits p rows ks v
   exact_needful p rows ks v exact j =
-      opposite (granted v) exact (λ fails. (needed p ks (on_link j)).refused (λ passes. fails (j, passes))) (λ passes. (timely p ks (on_link j)).schedulable passes.1)
+      opposite (is_ok v) exact (λ fails. (needed p ks (on_link j)).refused (λ passes. fails (j, passes))) (λ passes. (timely p ks (on_link j)).schedulable passes.1)
 
-  pub least_exact : (dated : K → ℕ → K) → Lawful m limits dated → (p rows : ℕ) (ks : List K) (k : K) (r : Result (ℕ × ℕ) Verdict) → Least m limits dated p rows ks k r → LeastExact m steps limits dated p rows ks k r
+  pub least_exact : (dated : K → ℕ → K) → Lawful m limits dated → (p rows : ℕ) (ks : List K) (k : K) (r : Result (ℕ × ℕ) Unfit) → Least m limits dated p rows ks k r → LeastExact m steps limits dated p rows ks k r
   least_exact dated law p rows ks k (Ok found) (judged, least) =
       let wide = dated k 40320 in
       let there = beside_judgeable m limits dated law p rows ks wide judged in
@@ -39,4 +39,3 @@ module _ {K S : Type 0} (m : K → Numbers) (steps : K → Steps S) (limits : K 
       record { refused = λ _. (λ _. (needed p _ (on_link at.0)).overload at.1, λ _. refl); carried = tt; shorter = tt }
   least_exact dated law p rows ks k (Err (Late point count)) (judged, at) =
       record { refused = λ _. (λ _. (needed p _ (on_link at.0)).refused (λ passes. at.2.fails (passes.demand_fits point)), λ _. refl); carried = tt; shorter = tt }
-  least_exact dated law p rows ks k (Err (Granted count)) none = absurd none

@@ -3,15 +3,15 @@
 use Rattle.std.specs.Prelude.{ℕ, ◌<◌, ◌≤◌, Bool, not, List, [], ◌∷◌, ◌++◌, is_ok, IfOk, Decides, Result}
 use Rattle.traffic.specs.Arrivals.{Steps}
 use Rattle.traffic.specs.Curves.{Numbers}
-use Rattle.verdict.specs.Judged.{Judgeable, granted}
+use Rattle.verdict.specs.Judged.{Judgeable}
 use Rattle.verdict.specs.Least.{beside, widest}
-use Rattle.verdict.specs.declared.Verdict.{Verdict}
+use Rattle.verdict.specs.declared.Unfit.{Unfit}
 use Rattle.schedule.specs.Arrivals.{Unschedulable}
 
 module _ {K S : Type 0} (numbers : K → Numbers) (steps : K → Steps S) (limits : K → ℕ → Bool) where
   -- channels that may be judged are refused exactly if some lawful arrivals defeat them
-  abbrev pub Needful : ℕ → ℕ → List K → Verdict → Type 0
-  Needful p rows ks v = Judgeable limits p rows ks → Decides (not (granted v)) (Unschedulable numbers steps p ks)
+  abbrev pub Needful : ℕ → ℕ → List K → Result ℕ Unfit → Type 0
+  Needful p rows ks v = Judgeable limits p rows ks → Decides (not (is_ok v)) (Unschedulable numbers steps p ks)
 
   module _ (dated : K → ℕ → K) (p rows : ℕ) (ks : List K) (k : K) where
     abbrev wide : K
@@ -22,7 +22,7 @@ module _ {K S : Type 0} (numbers : K → Numbers) (steps : K → Steps S) (limit
     DefeatedAt d = Unschedulable numbers steps p (beside numbers dated p ks wide d)
 
     -- refused exactly if the longest allowance is defeated; else the answer is not, and every shorter allowance down to the longest length is
-    pub record LeastExact (r : Result (ℕ × ℕ) Verdict) : Type 0 where
+    pub record LeastExact (r : Result (ℕ × ℕ) Unfit) : Type 0 where
       pub refused : Judgeable limits p rows (ks ++ wide ∷ []) → Decides (not (is_ok r)) (DefeatedAt 40320)
       pub carried : IfOk r (λ found. DefeatedAt found.0 → ⊥)
       pub shorter : IfOk r (λ found. (e : ℕ) → (numbers wide).longest ≤ e → e < found.0 → DefeatedAt e)

@@ -7,8 +7,8 @@ ghost use Rattle.verdict.specs.Members.{members, rows_counted, size};
 ghost use Rattle.admission.specs.Exact.{Needful, LeastExact};
 
 use traffic::Traffic;
-use verdict::Verdict;
 use verdict::channels::Channels;
+use verdict::{Unfit, Verdict};
 
 // Whether the channels may stand together on a link whose longest packet has `longest` slots.
 pub fn judge<K: Traffic, S: Copy>(channels: &Channels<'_, K, S>, longest: u32) -> Verdict
@@ -23,7 +23,7 @@ pub fn least<K: Traffic, S: Copy>(
     channels: &Channels<'_, K, S>,
     new: K,
     longest: u32,
-) -> Result<(u32, u32), Verdict>
+) -> Result<(u32, u32), Unfit>
     ensures least { Least K.Curve.numbers K.Curve.limits K.Curve.dated longest (size channels.now) (rows_counted channels.now) new result }
     ensures exact { LeastExact K.Curve.numbers K.Traffic.steps K.Curve.limits K.Curve.dated longest (size channels.now) (rows_counted channels.now) new result }
 {

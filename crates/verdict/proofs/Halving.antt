@@ -1,13 +1,13 @@
 -- The range of allowances that halving keeps: its upper end passes, its lower end does not.
-use Rattle.std.proofs.Common.{◌≡◌, ℕ, zero, suc, ◌+◌, ◌-◌, ◌<◌, ◌≤◌, Bool, List, [], ◌∷◌, ◌++◌, Err, sym, refl, subst, inl, inr, arith}
-use Rattle.traffic.specs.Curves.{Numbers, Rises}
+use Rattle.std.proofs.Common.{◌≡◌, ℕ, ◌+◌, ◌-◌, ◌<◌, ◌≤◌, Bool, List, [], ◌∷◌, ◌++◌, Err, Result, sym, subst, inl, inr, arith}
+use Rattle.traffic.specs.Curves.{Numbers}
 use Rattle.verdict.specs.Demand.{curves, horizon, blocking}
 use Rattle.verdict.specs.Judged.{Judgeable, Judged}
-use Rattle.verdict.specs.Least.{beside, LeastIs, Probed, none_fails, first_fails, Least}
+use Rattle.verdict.specs.Least.{beside, LeastIs, Least}
 use Rattle.verdict.specs.Passes.{Passes}
 use Rattle.verdict.specs.Points.{FirstFailing}
-use Rattle.verdict.specs.declared.Verdict.{Verdict}
-use Rattle.verdict.specs.declared.Verdict.TheVariants.{Granted, OutsideLimits, Overloaded, Late}
+use Rattle.verdict.specs.declared.Unfit.{Unfit}
+use Rattle.verdict.specs.declared.Unfit.TheVariants.{OutsideLimits, Overloaded, Late}
 use Rattle.verdict.proofs.Lengthening.{Lawful, passes_raised, beside_judgeable, longest_most}
 
 -- low is below the longest length, or does not pass and first fails at point
@@ -55,33 +55,17 @@ module _ {K : Type 0} (m : K → Numbers) (limits : K → ℕ → Bool) (dated :
   pub halves_up : {low high point : ℕ} (middle : ℕ) → Between m dated p ks k low high point → low < middle → middle < high → (failing count : ℕ) → (Passes m (blocking p) (beside m dated p ks k middle) → ⊥) → FirstFailing (blocking p) (curves m (beside m dated p ks k middle)) (horizon m (beside m dated p ks k middle)) failing count → Between m dated p ks k middle high failing
   halves_up middle b above below failing count not first = record { order = below; floor = omega (arith, b.floor); most = b.most; passes = b.passes; lower = fails (omega (arith, b.floor)) not count first }
 
--- no point of a function that is 0 at 0 lies at 0
-pub point_positive : (F : ℕ → ℕ) (t : ℕ) → F 0 ≡ 0 → Rises F t → 0 < t
-point_positive F zero none up = absurd (omega arith)
-point_positive F (suc t) none up = omega arith
-
--- what a probe tells
-module _ {K : Type 0} {m : K → Numbers} {β : ℕ → ℕ} {ks : List K} where
-  pub probed_none : {r : ℕ} → Probed m β ks r → r ≡ 0 → Passes m β ks
-  probed_none (none_fails passes) e = passes
-  probed_none (first_fails point count some not first) e = absurd (omega arith)
-
-  pub probed_some : {r : ℕ} → Probed m β ks r → (r ≡ 0 → ⊥) → (Passes m β ks → ⊥) × ((count : ℕ) × FirstFailing β (curves m ks) (horizon m ks) r count)
-  probed_some (none_fails passes) some = absurd (some refl)
-  probed_some (first_fails point count more not first) some = (not, (count, first))
-
 -- a refusal at the longest allowance
-pub least_refused : {K : Type 0} (m : K → Numbers) (limits : K → ℕ → Bool) (dated : K → ℕ → K) (law : Lawful m limits dated) (p rows : ℕ) (ks : List K) (k : K) → Judgeable limits p rows (ks ++ dated k 40320 ∷ []) → (v : Verdict) → ((count : ℕ) → v ≡ Granted count → ⊥) → Judged m limits p rows (beside m dated p ks (dated k 40320) 40320) v → Least m limits dated p rows ks k (Err v)
-least_refused m limits dated law p rows ks k judged (Granted count) not at = absurd (not count refl)
-least_refused m limits dated law p rows ks k judged OutsideLimits not at =
+pub least_refused : {K : Type 0} (m : K → Numbers) (limits : K → ℕ → Bool) (dated : K → ℕ → K) (law : Lawful m limits dated) (p rows : ℕ) (ks : List K) (k : K) → Judgeable limits p rows (ks ++ dated k 40320 ∷ []) → (e : Unfit) → Judged m limits p rows (beside m dated p ks (dated k 40320) 40320) (Err e) → Least m limits dated p rows ks k (Err e)
+least_refused m limits dated law p rows ks k judged OutsideLimits at =
     absurd (at (beside_judgeable m limits dated law p rows ks (dated k 40320) judged 40320 (omega (arith, longest_most m limits dated law p rows ks (dated k 40320) judged)) (omega arith)))
-least_refused m limits dated law p rows ks k judged Overloaded not at = (judged, at)
-least_refused m limits dated law p rows ks k judged (Late point count) not at = (judged, at)
+least_refused m limits dated law p rows ks k judged Overloaded at = (judged, at)
+least_refused m limits dated law p rows ks k judged (Late point count) at = (judged, at)
 
 -- the table with a channel, by what it is equal to
 module _ {K : Type 0} (limits : K → ℕ → Bool) (p : ℕ) {rows rows' : ℕ} {ks ks' : List K} (size : rows ≡ rows') (same : ks ≡ ks') where
   pub judgeable_same : Judgeable limits p rows ks → Judgeable limits p rows' ks'
   judgeable_same j = subst (λ n. Judgeable limits p n ks') size (subst (Judgeable limits p rows) same j)
 
-  pub judged_same : (m : K → Numbers) (v : Verdict) → Judged m limits p rows ks v → Judged m limits p rows' ks' v
+  pub judged_same : (m : K → Numbers) (v : Result ℕ Unfit) → Judged m limits p rows ks v → Judged m limits p rows' ks' v
   judged_same m v j = subst (λ n. Judged m limits p n ks' v) size (subst (λ xs. Judged m limits p rows xs v) same j)

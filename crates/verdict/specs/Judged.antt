@@ -1,12 +1,12 @@
 -- What the verdict answers of a set of channels on a link whose longest packet has p slots.
-use Rattle.std.specs.Prelude.{◌≡◌, ℕ, ◌<◌, ◌≤◌, Bool, true, false, List, Decides}
+use Rattle.std.specs.Prelude.{◌≡◌, ℕ, ◌<◌, ◌≤◌, Bool, true, List, Ok, Err, is_ok, Decides, Result}
 use Rattle.std.specs.List.{AllByRecursion}
 use Rattle.traffic.specs.Curves.{Numbers}
 use Rattle.verdict.specs.Demand.{works, curves, horizon, blocking}
 use Rattle.verdict.specs.Passes.{Passes}
 use Rattle.verdict.specs.Points.{AllFit, FirstFailing}
-use Rattle.verdict.specs.declared.Verdict.{Verdict}
-use Rattle.verdict.specs.declared.Verdict.TheVariants.{Granted, OutsideLimits, Overloaded, Late}
+use Rattle.verdict.specs.declared.Unfit.{Unfit}
+use Rattle.verdict.specs.declared.Unfit.TheVariants.{OutsideLimits, Overloaded, Late}
 
 -- p is 1 to 255, the channels come from a table of at most 32 rows and one more, and each keeps its limits under p
 pub record Judgeable {K : Type 0} (limits : K → ℕ → Bool) (p rows : ℕ) (ks : List K) : Type 0 where
@@ -17,19 +17,12 @@ pub record Judgeable {K : Type 0} (limits : K → ℕ → Bool) (p rows : ℕ) (
 
 module _ {K : Type 0} (m : K → Numbers) (limits : K → ℕ → Bool) (p rows : ℕ) (ks : List K) where
   -- granted: the works fit a frame and every point fits; refused: they do not, or a point is the first that does not
-  abbrev pub Judged : Verdict → Type 0
-  Judged OutsideLimits = Judgeable limits p rows ks → ⊥
-  Judged Overloaded = Judgeable limits p rows ks × (5040 < works m ks)
-  Judged (Late point count) = Judgeable limits p rows ks × (works m ks ≤ 5040) × FirstFailing (blocking p) (curves m ks) (horizon m ks) point count
-  Judged (Granted count) = Judgeable limits p rows ks × (works m ks ≤ 5040) × AllFit (blocking p) (curves m ks) (horizon m ks) count
-
--- the answer is a grant
-abbrev pub granted : Verdict → Bool
-granted (Granted count) = true
-granted OutsideLimits = false
-granted Overloaded = false
-granted (Late point count) = false
+  abbrev pub Judged : Result ℕ Unfit → Type 0
+  Judged (Err OutsideLimits) = Judgeable limits p rows ks → ⊥
+  Judged (Err Overloaded) = Judgeable limits p rows ks × (5040 < works m ks)
+  Judged (Err (Late point count)) = Judgeable limits p rows ks × (works m ks ≤ 5040) × FirstFailing (blocking p) (curves m ks) (horizon m ks) point count
+  Judged (Ok count) = Judgeable limits p rows ks × (works m ks ≤ 5040) × AllFit (blocking p) (curves m ks) (horizon m ks) count
 
 -- granted exactly where the channels may be judged and pass
-abbrev pub Exact : {K : Type 0} → (K → Numbers) → (K → ℕ → Bool) → ℕ → ℕ → List K → Verdict → Type 0
-Exact m limits p rows ks v = Decides (granted v) (Judgeable limits p rows ks × Passes m (blocking p) ks)
+abbrev pub Exact : {K : Type 0} → (K → Numbers) → (K → ℕ → Bool) → ℕ → ℕ → List K → Result ℕ Unfit → Type 0
+Exact m limits p rows ks v = Decides (is_ok v) (Judgeable limits p rows ks × Passes m (blocking p) ks)

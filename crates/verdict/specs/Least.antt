@@ -1,12 +1,12 @@
 -- The least allowance with which a channel passes beside those that count.
-use Rattle.std.specs.Prelude.{◌≡◌, ℕ, ◌-◌, ◌<◌, ◌≤◌, Bool, ◌⊎◌, List, [], ◌∷◌, ◌++◌, Ok, Err, Result}
+use Rattle.std.specs.Prelude.{◌≡◌, ℕ, ◌-◌, ◌<◌, ◌≤◌, Bool, ◌⊎◌, List, [], ◌∷◌, ◌++◌, Some, None, Ok, Err, Option, Result}
 use Rattle.traffic.specs.Curves.{Numbers}
 use Rattle.verdict.specs.Demand.{curves, horizon, blocking}
 use Rattle.verdict.specs.Judged.{Judgeable, Judged}
 use Rattle.verdict.specs.Passes.{Passes}
 use Rattle.verdict.specs.Points.{FirstFailing}
-use Rattle.verdict.specs.declared.Verdict.{Verdict}
-use Rattle.verdict.specs.declared.Verdict.TheVariants.{Granted, OutsideLimits, Overloaded, Late}
+use Rattle.verdict.specs.declared.Unfit.{Unfit}
+use Rattle.verdict.specs.declared.Unfit.TheVariants.{OutsideLimits, Overloaded, Late}
 
 module _ {K : Type 0} (m : K → Numbers) (dated : K → ℕ → K) (p : ℕ) (ks : List K) where
   -- the channels ks, and the channel k with the allowance d
@@ -22,9 +22,9 @@ module _ {K : Type 0} (m : K → Numbers) (dated : K → ℕ → K) (p : ℕ) (k
     pub forbids : ((d ≡ (m k).longest) × (f ≡ 0)) ⊎ (((m k).longest < d) × ((count : ℕ) × FirstFailing (blocking p) (curves m (beside k (d - 1))) (horizon m (beside k (d - 1))) f count))
 
 -- no point fails, and the channels pass; or this one is the first that does, and they do not
-pub data Probed {K : Type 0} (m : K → Numbers) (β : ℕ → ℕ) (ks : List K) : ℕ → Type 0 where
-  none_fails : Passes m β ks → Probed m β ks 0
-  first_fails : (point count : ℕ) → 0 < point → (Passes m β ks → ⊥) → FirstFailing β (curves m ks) (horizon m ks) point count → Probed m β ks point
+abbrev pub Probed : {K : Type 0} (m : K → Numbers) (β : ℕ → ℕ) (ks : List K) → Option ℕ → Type 0
+Probed m β ks None = Passes m β ks
+Probed m β ks (Some point) = (Passes m β ks → ⊥) × ((count : ℕ) × FirstFailing β (curves m ks) (horizon m ks) point count)
 
 module _ {K : Type 0} (m : K → Numbers) (limits : K → ℕ → Bool) (dated : K → ℕ → K) (p rows : ℕ) (ks : List K) (k : K) where
   -- the channel with the longest allowance that there is: its own is not looked at
@@ -32,9 +32,8 @@ module _ {K : Type 0} (m : K → Numbers) (limits : K → ℕ → Bool) (dated :
   widest = dated k 40320
 
   -- the least allowance and the point that forbids one less, or what the verdict says at 40,320
-  abbrev pub Least : Result (ℕ × ℕ) Verdict → Type 0
+  abbrev pub Least : Result (ℕ × ℕ) Unfit → Type 0
   Least (Ok r) = Judgeable limits p rows (ks ++ widest ∷ []) × LeastIs m dated p ks widest r.0 r.1
   Least (Err OutsideLimits) = Judgeable limits p rows (ks ++ widest ∷ []) → ⊥
-  Least (Err Overloaded) = Judgeable limits p rows (ks ++ widest ∷ []) × Judged m limits p rows (beside m dated p ks widest 40320) Overloaded
-  Least (Err (Late point count)) = Judgeable limits p rows (ks ++ widest ∷ []) × Judged m limits p rows (beside m dated p ks widest 40320) (Late point count)
-  Least (Err (Granted count)) = ⊥
+  Least (Err Overloaded) = Judgeable limits p rows (ks ++ widest ∷ []) × Judged m limits p rows (beside m dated p ks widest 40320) (Err Overloaded)
+  Least (Err (Late point count)) = Judgeable limits p rows (ks ++ widest ∷ []) × Judged m limits p rows (beside m dated p ks widest 40320) (Err (Late point count))

@@ -6,7 +6,7 @@ ghost use Rattle.verdict.specs.Least.{beside, LeastIs, Probed, Least};
 ghost use Rattle.verdict.specs.Members.{members, rows_counted, size};
 ghost use Rattle.verdict.specs.Passes.{Passes};
 
-use crate::Verdict;
+use crate::Unfit;
 use crate::channels::Channels;
 use traffic::Curve;
 
@@ -26,17 +26,15 @@ impl<'a, K: Curve, S: Copy> Channels<'a, K, S> {
         }
     }
 
-    // The first failing point of channels whose works fit, or 0.
-    fn probe(&self, longest: u32) -> u32
+    // The first failing point of channels whose works fit, if there is one.
+    fn probe(&self, longest: u32) -> Option<u32>
         requires judged { Judgeable K.Curve.limits longest (size self.now) (members self.now) }
         requires works { works K.Curve.numbers (members self.now) ≤ 5040 }
         ensures { Probed K.Curve.numbers (blocking longest) (members self.now) result }
     {
         match self.judge(longest) {
-            Verdict::Granted { .. } => 0,
-            Verdict::Late { point, .. } => point,
-            Verdict::OutsideLimits => unreachable(),
-            Verdict::Overloaded => unreachable(),
+            Err(Unfit::Late { point, .. }) => Some(point),
+            _ => None,
         }
     }
 
@@ -51,28 +49,26 @@ impl<'a, K: Curve, S: Copy> Channels<'a, K, S> {
         let mut point = 0;
         while high - low > 1 {
             let middle = low + (high - low) / 2;
-            let failing = self.with(widest.with_allowance(middle)).probe(longest);
-            if failing == 0 {
-                high = middle;
-            } else {
-                low = middle;
-                point = failing;
+            match self.with(widest.with_allowance(middle)).probe(longest) {
+                None => high = middle,
+                Some(failing) => {
+                    low = middle;
+                    point = failing;
+                }
             }
         }
         (high, point)
     }
 
     // The least allowance that passes, and the first failing point one slot sooner (0 where it is the longest length).
-    pub fn least(&self, new: K, longest: u32) -> Result<(u32, u32), Verdict>
+    pub fn least(&self, new: K, longest: u32) -> Result<(u32, u32), Unfit>
         ensures { Least K.Curve.numbers K.Curve.limits K.Curve.dated longest (size self.now) (rows_counted self.now) new result }
     {
         let widest = new.with_allowance(MOST);
         if !self.with(widest).judgeable(longest) {
-            return Err(Verdict::OutsideLimits);
+            return Err(Unfit::OutsideLimits);
         }
-        match self.with(widest.with_allowance(MOST)).judge(longest) {
-            Verdict::Granted { .. } => Ok(self.halve(widest, longest)),
-            refused => Err(refused),
-        }
+        self.with(widest.with_allowance(MOST)).judge(longest)?;
+        Ok(self.halve(widest, longest))
     }
 }

@@ -15,10 +15,9 @@ mod walk;
 use channels::Channels;
 use traffic::{Curve, FRAME};
 
-#[derive(Clone, Copy)]
-pub enum Verdict {
-    // Every point fits; so many were taken.
-    Granted { count: u32 },
+// Why channels may not stand together.
+#[derive(Clone, Copy, Debug, PartialEq, Eq)]
+pub enum Unfit {
     // The longest packet is not 1 to 255, there are more than 32 rows, or a channel is outside its limits: nothing is judged.
     OutsideLimits,
     // The channels ask for more than a frame in each frame.
@@ -27,6 +26,9 @@ pub enum Verdict {
     Late { point: u32, count: u32 },
 }
 
+// How many points were taken where every one fits, or why the channels are refused.
+pub type Verdict = Result<u32, Unfit>;
+
 impl<'a, K: Curve, S: Copy> Channels<'a, K, S> {
     // Whether the channels may stand together on a link whose longest packet has `longest` slots.
     pub fn judge(&self, longest: u32) -> Verdict
@@ -34,29 +36,29 @@ impl<'a, K: Curve, S: Copy> Channels<'a, K, S> {
         ensures exact { Exact K.Curve.numbers K.Curve.limits longest (size self.now) (members self.now) result }
     {
         if !self.judgeable(longest) {
-            return Verdict::OutsideLimits;
+            return Err(Unfit::OutsideLimits);
         }
         let (works, _) = self.loads(longest);
         if works > FRAME {
-            return Verdict::Overloaded;
+            return Err(Unfit::Overloaded);
         }
         let end = self.end_of_points(longest);
         match self.walk(longest, end) {
-            (0, count) => Verdict::Granted { count },
-            (point, count) => Verdict::Late { point, count },
+            (0, count) => Ok(count),
+            (point, count) => Err(Unfit::Late { point, count }),
         }
     }
 
     // The longest run of slots without a quiet one, by the straight line: refused where the works fill the frame.
-    pub fn stretch(&self, longest: u32) -> Result<u64, Verdict>
+    pub fn stretch(&self, longest: u32) -> Result<u64, Unfit>
         ensures { Stretched K.Curve.numbers K.Curve.limits longest (size self.now) (members self.now) result }
     {
         if !self.judgeable(longest) {
-            return Err(Verdict::OutsideLimits);
+            return Err(Unfit::OutsideLimits);
         }
         let (works, bursts) = self.loads(longest);
         if works >= FRAME {
-            return Err(Verdict::Overloaded);
+            return Err(Unfit::Overloaded);
         }
         let slots = u64::from(FRAME) * (u64::from(longest - 1) + u64::from(bursts));
         let spare = u64::from(FRAME - works);

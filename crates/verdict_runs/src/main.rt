@@ -7,8 +7,8 @@ use traffic::Row;
 use traffic::bucket::Bucket;
 use traffic::mixture::Mixture;
 use traffic::spaced::Spaced;
-use verdict::Verdict;
 use verdict::channels::Channels;
+use verdict::{Unfit, Verdict};
 
 type Kind = Mixture<Spaced, Bucket>;
 
@@ -38,7 +38,7 @@ fn judged(rows: &[Row<Kind, ()>], more: Option<Kind>, longest: u32) -> Verdict {
     channels.judge(longest)
 }
 
-fn least_beside(rows: &[Row<Kind, ()>], new: Kind, longest: u32) -> Result<(u32, u32), Verdict> {
+fn least_beside(rows: &[Row<Kind, ()>], new: Kind, longest: u32) -> Result<(u32, u32), Unfit> {
     let channels = Channels {
         rows,
         counted: &COUNTED,
@@ -47,7 +47,7 @@ fn least_beside(rows: &[Row<Kind, ()>], new: Kind, longest: u32) -> Result<(u32,
     channels.least(new, longest)
 }
 
-fn stretch_of(rows: &[Row<Kind, ()>], longest: u32) -> Result<u64, Verdict> {
+fn stretch_of(rows: &[Row<Kind, ()>], longest: u32) -> Result<u64, Unfit> {
     let channels = Channels {
         rows,
         counted: &COUNTED,
@@ -56,21 +56,25 @@ fn stretch_of(rows: &[Row<Kind, ()>], longest: u32) -> Result<u64, Verdict> {
     channels.stretch(longest)
 }
 
-fn print_verdict(rt: &HostRuntime, name: &str, verdict: Verdict) -> io::Result<()> {
-    match verdict {
-        Verdict::Granted { count } => println!(rt; "{name}: granted, {count} points"),
-        Verdict::OutsideLimits => println!(rt; "{name}: outside limits"),
-        Verdict::Overloaded => println!(rt; "{name}: overloaded"),
-        Verdict::Late { point, count } => println!(rt;
-            "{name}: point {point} fails, {count} points"
-        ),
+fn print_unfit(rt: &HostRuntime, name: &str, unfit: Unfit) -> io::Result<()> {
+    match unfit {
+        Unfit::OutsideLimits => println!(rt; "{name}: outside limits"),
+        Unfit::Overloaded => println!(rt; "{name}: overloaded"),
+        Unfit::Late { point, count } => println!(rt; "{name}: point {point} fails, {count} points"),
     }
 }
 
-fn print_least(rt: &HostRuntime, name: &str, found: Result<(u32, u32), Verdict>) -> io::Result<()> {
+fn print_verdict(rt: &HostRuntime, name: &str, verdict: Verdict) -> io::Result<()> {
+    match verdict {
+        Ok(count) => println!(rt; "{name}: granted, {count} points"),
+        Err(unfit) => print_unfit(rt, name, unfit),
+    }
+}
+
+fn print_least(rt: &HostRuntime, name: &str, found: Result<(u32, u32), Unfit>) -> io::Result<()> {
     match found {
         Ok((allowance, point)) => println!(rt; "{name}: least {allowance}, forbidden by {point}"),
-        Err(refused) => print_verdict(rt, name, refused),
+        Err(unfit) => print_unfit(rt, name, unfit),
     }
 }
 
@@ -107,7 +111,7 @@ fn figures(rt: &HostRuntime) -> io::Result<()> {
     print_verdict(rt, "all three", judged(&rows, None, 4))?;
     match stretch_of(&rows, 4) {
         Ok(slots) => println!(rt; "stretch {slots}"),
-        Err(refused) => print_verdict(rt, "stretch", refused),
+        Err(unfit) => print_unfit(rt, "stretch", unfit),
     }
 }
 

@@ -1,9 +1,10 @@
-use Rattle.std.proofs.Common.{◌+◌, ◌-◌, ◌/◌, ◌≤◌, [], ◌∷◌, ◌++◌, sym, refl, ap, ◌∙◌, subst, arith}
+use Rattle.std.proofs.Common.{◌+◌, ◌-◌, ◌/◌, ◌≤◌, [], ◌∷◌, ◌++◌, Some, sym, refl, ap, ◌∙◌, subst, arith}
 use Rattle.verdict.specs.Demand.{works, blocking}
 use Rattle.verdict.specs.Judged.{Judgeable}
 use Rattle.verdict.specs.Least.{Probed, beside}
 use Rattle.verdict.specs.Members.{rows_counted, size}
-use Rattle.verdict.proofs.Halving.{too_short, halved, halves_down, halves_up, probed_none, probed_some}
+use Rattle.verdict.specs.Passes.{Passes}
+use Rattle.verdict.proofs.Halving.{too_short, halved, halves_down, halves_up}
 use Rattle.verdict.proofs.Lengthening.{Lawful, new_within, longest_least, longest_most, beside_judgeable, beside_works}
 use Rattle.verdict.proofs.channels.Channels.halve.Given as given
 use Rattle.verdict.proofs.channels.Channels.halve.Goals as goal
@@ -30,8 +31,8 @@ loop-high-init g c =
       lower = too_short (omega (arith, is, least)) refl;
     }
 
-pub probe-failing-requires : goal.probe-failing-requires
-probe-failing-requires g c =
+pub probe-requires : goal.probe-requires
+probe-requires g c =
     let ks = rows_counted c.args.self.now in
     let is = c.with.ensures.members ∙ ap (λ k. ks ++ k ∷ []) c.with_allowance.ensures in
     let b = c.loop-high.invariant in
@@ -45,14 +46,14 @@ probe-failing-requires g c =
       works = omega (arith, ap (works g.K.Curve.numbers) is, loads middle least most, loads 40320 (omega (arith, least, most)) (omega arith), c.requires.passes.works_fit);
     }
 
-pub loop-high-preserved-then-failing-eq0 : goal.loop-high-preserved-then-failing-eq0
-loop-high-preserved-then-failing-eq0 g c =
+pub loop-high-preserved-in-None : goal.loop-high-preserved-in-None
+loop-high-preserved-in-None g c =
     let ks = rows_counted c.args.self.now in
     let is = c.with.ensures.members ∙ ap (λ k. ks ++ k ∷ []) c.with_allowance.ensures in
     let b = c.loop-high.invariant in
     let middle = c.loop-high.low + (c.loop-high.high - c.loop-high.low) / 2 in
-    let probed = subst (λ x. Probed g.K.Curve.numbers (blocking c.args.longest) x c.probe-failing.result) is c.probe-failing.ensures in
-    halves_down _ _ _ (law g) _ _ _ _ c.requires.judged middle b (omega (arith, b.order, c.loop-high-test.true)) (omega (arith, b.order, c.loop-high-test.true)) (probed_none probed c.if-failing-eq0.true)
+    let passes = subst (Passes g.K.Curve.numbers (blocking c.args.longest)) is c.in-None.ensures in
+    halves_down _ _ _ (law g) _ _ _ _ c.requires.judged middle b (omega (arith, b.order, c.loop-high-test.true)) (omega (arith, b.order, c.loop-high-test.true)) passes
 
 pub loop-high-preserved : goal.loop-high-preserved
 loop-high-preserved g c =
@@ -60,9 +61,8 @@ loop-high-preserved g c =
     let is = c.with.ensures.members ∙ ap (λ k. ks ++ k ∷ []) c.with_allowance.ensures in
     let b = c.loop-high.invariant in
     let middle = c.loop-high.low + (c.loop-high.high - c.loop-high.low) / 2 in
-    let probed = subst (λ x. Probed g.K.Curve.numbers (blocking c.args.longest) x c.probe-failing.result) is c.probe-failing.ensures in
-    let some = probed_some probed c.if-failing-eq0.false in
-    halves_up _ _ _ (law g) _ _ _ _ c.requires.judged middle b (omega (arith, b.order, c.loop-high-test.true)) (omega (arith, b.order, c.loop-high-test.true)) c.probe-failing.result some.1.0 some.0 some.1.1
+    let probed = subst (λ x. Probed g.K.Curve.numbers (blocking c.args.longest) x (Some c.in-Some.failing)) is c.in-Some.ensures in
+    halves_up _ _ _ (law g) _ _ _ _ c.requires.judged middle b (omega (arith, b.order, c.loop-high-test.true)) (omega (arith, b.order, c.loop-high-test.true)) _ probed.1.0 probed.0 probed.1.1
 
 pub returns : goal.returns
 returns g c = halved _ _ _ (law g) _ _ _ _ c.requires.judged c.loop-high.invariant (omega arith)
