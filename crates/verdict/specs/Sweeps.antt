@@ -6,6 +6,7 @@ use Rattle.std.specs.List.{AllByRecursion}
 use Rattle.std.specs.List.Sorted.{IsPermutation}
 use Rattle.pool.specs.Contents.{contents}
 use Rattle.pool.specs.Elements.{head}
+use Rattle.pool.specs.declared.Ordered.{Ghosts as OrderedGhosts}
 use Rattle.pool.specs.declared.Pool.{Pool}
 use Rattle.traffic.specs.Curves.{Numbers, before, Rises, NextRise}
 use Rattle.verdict.specs.Demand.{total}
@@ -54,7 +55,7 @@ NextPoint f row t level end None = (v : ℕ) → t < v → v < end → Rises f v
 NextPoint f row t level end (Some p) = (p.row ≡ row) × (p.level ≡ level) × (p.t < end) × NextRise f t (Some p.t)
 
 -- the first point was taken, and the next one, if any, put
-pub record Replaced (before : Pool Point) (next : Option Point) (after : Pool Point) : Type 0 where
+pub record Replaced {o : OrderedGhosts Point} (before : Pool Point o) (next : Option Point) (after : Pool Point o) : Type 0 where
   pub first : Point
   pub rest : List Point
   pub taken : IsPermutation (contents before) (first ∷ rest)

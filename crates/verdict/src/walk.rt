@@ -2,11 +2,11 @@
 ghost use Rattle.std.specs.Prelude.{◌≡◌, ℕ, ◌+◌, ◌-◌, ◌*◌, ◌<◌, ◌≤◌, ◌∷◌, ◌++◌, length};
 ghost use Rattle.std.specs.Option.{option_to_list};
 ghost use Rattle.std.specs.List.Sorted.{IsPermutation};
-ghost use Rattle.pool.specs.Contents.{contents, capacity, Sound};
+ghost use Rattle.pool.specs.Contents.{contents, capacity};
 ghost use Rattle.verdict.specs.Demand.{curves, blocking};
 ghost use Rattle.verdict.specs.Judged.{Judgeable};
 ghost use Rattle.verdict.specs.Members.{members, places, size};
-ghost use Rattle.verdict.specs.Points.{Walked, point_before};
+ghost use Rattle.verdict.specs.Points.{Walked};
 ghost use Rattle.verdict.specs.Sweeps.{row_curve, Sweep, NextPoint, Replaced, Advanced};
 
 use crate::channels::Channels;
@@ -16,9 +16,7 @@ use traffic::Curve;
 
 // Puts this point, if any, where there is room.
 fn add(points: &mut Pool<'_, Point>, next: Option<Point>)
-    requires sound { Sound point_before points.old }
-    requires room { points.old.count < capacity points.old }
-    ensures sound { Sound point_before points.new }
+    requires { points.old.count < capacity points.old }
     ensures room { capacity points.new ≡ capacity points.old }
     ensures count { points.new.count ≤ points.old.count + 1 }
     ensures added { IsPermutation (option_to_list next ++ contents points.old) (contents points.new) }
@@ -30,10 +28,8 @@ fn add(points: &mut Pool<'_, Point>, next: Option<Point>)
 
 // Takes the first point and puts this one, if any, in its place.
 fn replace(points: &mut Pool<'_, Point>, next: Option<Point>)
-    requires sound { Sound point_before points.old }
-    requires some { 0 < points.old.count }
-    ensures sound { Sound point_before points.new }
-    ensures replaced { Replaced points.old next points.new }
+    requires { 0 < points.old.count }
+    ensures { Replaced points.old next points.new }
 {
     let _ = points.take();
     add(points, next);
@@ -72,12 +68,10 @@ impl<'a, K: Curve, S: Copy> Channels<'a, K, S> {
     // The first point of each row.
     fn fill(&self, points: &mut Pool<'_, Point>, longest: u32, end: u32)
         requires judged { Judgeable K.Curve.limits longest (size self.now) (members self.now) }
-        requires sound { Sound point_before points.old }
         requires empty { points.old.count ≡ 0 }
         requires some { 1 ≤ end }
         requires room { capacity points.old ≡ 33 }
-        ensures sound { Sound point_before points.new }
-        ensures sweep { Sweep (row_curve K.Curve.numbers (places self.now)) (length (places self.now)) 1 1 end (contents points.new) 0 }
+        ensures { Sweep (row_curve K.Curve.numbers (places self.now)) (length (places self.now)) 1 1 end (contents points.new) 0 }
     {
         for i in 0..self.len() {
             let first = self.point_after(i, 0, 0, longest, end);
@@ -95,11 +89,9 @@ impl<'a, K: Curve, S: Copy> Channels<'a, K, S> {
         end: u32,
     ) -> Option<u64>
         requires judged { Judgeable K.Curve.limits longest (size self.now) (members self.now) }
-        requires sound { Sound point_before points.old }
         requires near { end ≤ 45360 }
         requires sweep { Sweep (row_curve K.Curve.numbers (places self.now)) (length (places self.now)) t (t + 1) end (contents points.old) sum }
-        ensures sound { Sound point_before points.new }
-        ensures advanced { Advanced (row_curve K.Curve.numbers (places self.now)) (length (places self.now)) t end (contents points.old) sum (contents points.new) result }
+        ensures { Advanced (row_curve K.Curve.numbers (places self.now)) (length (places self.now)) t end (contents points.old) sum (contents points.new) result }
     {
         let first = points.peek()?;
         if first.t != t {

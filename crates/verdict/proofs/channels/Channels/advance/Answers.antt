@@ -14,10 +14,7 @@ returns-then-first-t g c =
     let peeked = c.in_ok-first.ensures in
     let p = c.in_ok-first.first in
     let h = first_pending _ _ p (sym peeked.next) c.requires.sweep in
-    record {
-      sound = c.requires.sound;
-      advanced = advanced_none _ up _ _ p _ (λ e. omega arith) h.not_before peeked.first.1 c.requires.sweep;
-    }
+    advanced_none _ up _ _ p _ (λ e. omega arith) h.not_before peeked.first.1 c.requires.sweep
 
 pub overflow_add-result : goal.overflow_add-result
 overflow_add-result g c =
@@ -33,8 +30,5 @@ pub returns : goal.returns
 returns g c =
     let laws = row_laws g.K.Curve.numbers g.K.Curve.limits g.met.K.Curve.shaped c.requires.judged in
     let up = row_up g.K.Curve.numbers c.args.longest (places c.args.self.now) laws in
-    let r = c.replace.ensures.replaced in
-    record {
-      sound = c.replace.ensures.sound;
-      advanced = advance_step _ up _ _ c.in_ok-first.first r.first r.rest _ _ c.point_after-next.result (sym c.in_ok-first.ensures.next) r.was r.taken r.put (omega arith) c.point_after-next.ensures c.curve_at-level.ensures.value c.requires.sweep;
-    }
+    let r = c.replace.ensures in
+    advance_step _ up _ _ c.in_ok-first.first r.first r.rest _ _ c.point_after-next.result (sym c.in_ok-first.ensures.next) r.was r.taken r.put (omega arith) c.point_after-next.ensures c.curve_at-level.ensures.value c.requires.sweep

@@ -7,7 +7,7 @@ use Rattle.verdict.proofs.channels.Channels.fill.Goals as goal
 
 pub add-requires : goal.add-requires
 add-requires g c =
-    record { sound = c.loop-i.invariant.0; room = omega (arith, c.requires.judged.few, length-places c.args.self.now.rows.now c.args.self.now.counted.now c.args.self.now.more) }
+    omega (arith, c.requires.judged.few, length-places c.args.self.now.rows.now c.args.self.now.counted.now c.args.self.now.more)
 
 pub loop-i-preserved : goal.loop-i-preserved
 loop-i-preserved g c =
@@ -15,6 +15,6 @@ loop-i-preserved g c =
     let m = g.K.Curve.numbers in
     let laws = row_laws m g.K.Curve.limits g.met.K.Curve.shaped c.requires.judged in
     let up = row_up m c.args.longest os laws in
-    let next = fill_next _ up c.args.end c.loop-i.i c.requires.some (row_zero m c.args.longest os laws _) c.loop-i.invariant.3 _ c.point_after-first.ensures in
+    let next = fill_next _ up c.args.end c.loop-i.i c.requires.some (row_zero m c.args.longest os laws _) c.loop-i.invariant.2 _ c.point_after-first.ensures in
     let added = c.add.ensures in
-    (added.sound, omega (arith, added.room), omega (arith, added.count), sweep_shuffled _ up _ c.args.end added.added next)
+    (omega (arith, added.room), omega (arith, added.count), sweep_shuffled _ up _ c.args.end added.added next)

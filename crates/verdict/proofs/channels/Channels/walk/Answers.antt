@@ -13,14 +13,14 @@ pub points-init : goal.points-init
 points-init g c =
     let m = g.K.Curve.numbers in
     let laws = row_laws m g.K.Curve.limits g.met.K.Curve.shaped c.requires.judged in
-    (c.fill.ensures.sound, walk_starts m c.args.longest (places c.args.self.now) laws c.args.end (blocking c.args.longest) c.requires.some, c.fill.ensures.sweep)
+    (walk_starts m c.args.longest (places c.args.self.now) laws c.args.end (blocking c.args.longest) c.requires.some, c.fill.ensures)
 
 pub rows-init : goal.rows-init
 rows-init g c =
     let m = g.K.Curve.numbers in
     let laws = row_laws m g.K.Curve.limits g.met.K.Curve.shaped c.requires.judged in
     let peeked = c.in-Some.ensures in
-    (c.points.invariant.0, walk_enters m c.args.longest (places c.args.self.now) laws c.args.end c.points.invariant.1 c.points.invariant.2 c.in-Some.first (sym peeked.next) peeked.first.1)
+    walk_enters m c.args.longest (places c.args.self.now) laws c.args.end c.points.invariant.0 c.points.invariant.1 c.in-Some.first (sym peeked.next) peeked.first.1
 
 pub overflow_add-sum : goal.overflow_add-sum
 overflow_add-sum g c =
@@ -28,7 +28,7 @@ overflow_add-sum g c =
     let os = places c.args.self.now in
     let laws = row_laws m g.K.Curve.limits g.met.K.Curve.shaped c.requires.judged in
     let most = row_most m c.args.longest os laws in
-    let small = sum_most (row_curve m os) _ c.args.end c.requires.some (λ i v below. omega (arith, most i v)) c.rows.invariant.1 in
+    let small = sum_most (row_curve m os) _ c.args.end c.requires.some (λ i v below. omega (arith, most i v)) c.rows.invariant in
     omega (arith, small, c.requires.judged.few, length-places c.args.self.now.rows.now c.args.self.now.counted.now c.args.self.now.more)
 
 pub points-preserved : goal.points-preserved
@@ -37,26 +37,26 @@ points-preserved g c =
     let laws = row_laws m g.K.Curve.limits g.met.K.Curve.shaped c.requires.judged in
     let peeked = c.in-Some.ensures in
     let over = c.in_default.ensures in
-    (over.sound, walk_goes_on m c.args.longest (places c.args.self.now) laws c.args.end c.points.invariant.1 c.points.invariant.2 c.in-Some.first (sym peeked.next) peeked.first.1 over.advanced (omega (arith, c.if-from-sum.false)), over.advanced)
+    (walk_goes_on m c.args.longest (places c.args.self.now) laws c.args.end c.points.invariant.0 c.points.invariant.1 c.in-Some.first (sym peeked.next) peeked.first.1 over (omega (arith, c.if-from-sum.false)), over)
 
 pub points-smaller : goal.points-smaller
 points-smaller g c =
     let m = g.K.Curve.numbers in
     let laws = row_laws m g.K.Curve.limits g.met.K.Curve.shaped c.requires.judged in
     let peeked = c.in-Some.ensures in
-    let inside = walk_inside m c.args.longest (places c.args.self.now) laws c.args.end c.points.invariant.1 c.points.invariant.2 c.in-Some.first (sym peeked.next) peeked.first.1 in
-    let later = walk_later m c.args.longest (places c.args.self.now) laws c.args.end c.points.invariant.1 c.points.invariant.2 c.in-Some.first (sym peeked.next) peeked.first.1 in
+    let inside = walk_inside m c.args.longest (places c.args.self.now) laws c.args.end c.points.invariant.0 c.points.invariant.1 c.in-Some.first (sym peeked.next) peeked.first.1 in
+    let later = walk_later m c.args.longest (places c.args.self.now) laws c.args.end c.points.invariant.0 c.points.invariant.1 c.in-Some.first (sym peeked.next) peeked.first.1 in
     omega (arith, inside, later)
 
 pub returns-in-None : goal.returns-in-None
 returns-in-None g c =
     let m = g.K.Curve.numbers in
     let laws = row_laws m g.K.Curve.limits g.met.K.Curve.shaped c.requires.judged in
-    walk_ends m c.args.longest (places c.args.self.now) laws c.args.end c.points.invariant.1 c.points.invariant.2 (contents_none c.points.points c.in-None.ensures.first)
+    walk_ends m c.args.longest (places c.args.self.now) laws c.args.end c.points.invariant.0 c.points.invariant.1 (contents_none c.points.points c.in-None.ensures.first)
 
 pub returns-then-from-sum : goal.returns-then-from-sum
 returns-then-from-sum g c =
     let m = g.K.Curve.numbers in
     let laws = row_laws m g.K.Curve.limits g.met.K.Curve.shaped c.requires.judged in
     let peeked = c.in-Some.ensures in
-    walk_fails m c.args.longest (places c.args.self.now) laws c.args.end c.points.invariant.1 c.points.invariant.2 c.in-Some.first (sym peeked.next) peeked.first.1 c.in_default.ensures.advanced (omega (arith, c.if-from-sum.true))
+    walk_fails m c.args.longest (places c.args.self.now) laws c.args.end c.points.invariant.0 c.points.invariant.1 c.in-Some.first (sym peeked.next) peeked.first.1 c.in_default.ensures (omega (arith, c.if-from-sum.true))
