@@ -34,9 +34,9 @@ module _ {X : Type 0} (words : X → Words) (mats : X → List ℕ) where
   count_broken sec ls (Malformed s l) (same, zero-line, lacks) = (same, subst (BrokenAt words mats ls) (sym zero-line) (no_count lacks))
   count_broken sec ls NoMemory h = tt
 
-  pub entry_broken : (sec n k : ℕ) {ls after mid : List (List ℕ)} {xs : List X} (e : Fault) → NextCount sec ls after (Ok n) → Entries after k xs mid → k < n → NextEntry words mats sec (k + 1) mid [] (Err e) → Sectioned words mats sec ls [] (Err e)
-  entry_broken sec n k {ls} {after} {mid} {xs} (Malformed s l) (small, counted) h fewer (same, at, lacks) =
+  pub entry_broken : (sec n k : ℕ) {here : ℕ} {ls after mid : List (List ℕ)} {xs : List X} (e : Fault) → NextCount sec ls after (Ok n) → Entries after k xs mid → k < n → here ≡ sec → NextEntry words mats here (k + 1) mid [] (Err e) → Sectioned words mats sec ls [] (Err e)
+  entry_broken sec n k {here} {ls} {after} {mid} {xs} (Malformed s l) (small, counted) h fewer place (same, at, lacks) =
       let many = h.many in
-      let place : suc (length xs) ≡ l = omega arith in
-      (same, subst (BrokenAt words mats ls) place (no_entry n xs mid small h.fit (omega arith) (counted ∙ ap (λ r. decimal n ∷ r) h.split) lacks))
-  entry_broken sec n k NoMemory counted h fewer failed = tt
+      let line : suc (length xs) ≡ l = omega arith in
+      (same ∙ place, subst (BrokenAt words mats ls) line (no_entry n xs mid small h.fit (omega arith) (counted ∙ ap (λ r. decimal n ∷ r) h.split) lacks))
+  entry_broken sec n k NoMemory counted h fewer place failed = tt

@@ -1,14 +1,15 @@
 -- What a field may hold: the digits of a number, and no other bytes.
-use Rattle.std.proofs.Common.{◌≡◌, ℕ, ◌^◌, ◌<◌, List, [], ◌∷◌, length, get_or, Ok, Err, IsUtf8, decimal, Result, sym, ap, ◌∙◌, subst, inl, inr, ⊎_elim, arith}
+use Rattle.std.proofs.Common.{◌≡◌, ℕ, ◌^◌, ◌<◌, false, eqb, List, [], ◌∷◌, length, get_or, Some, None, Ok, Err, IsUtf8, decimal, Result, sym, ap, ◌∙◌, subst, inl, inr, ⊎_elim, arith}
 use Rattle.std.proofs.lemmas.Fmt.{IsAscii-decimal, decimal_digit, decimal_is_IsNumeral, decimal-digits_value, first_decimal}
-use Rattle.std.proofs.ByRecursion.{All-from_get_or}
 use Rattle.std.proofs.lemmas.Str.Parse.{IsNumeralModel, digit_at, numerals_by_value, parse_plain, tells_digits}
-use Rattle.std.proofs.lemmas.Bool.{cases_lt}
+use Rattle.std.proofs.lemmas.List.{get_or_default}
+use Rattle.std.proofs.lemmas.Bool.{cases_lt, ne_eqb}
 use Rattle.std.proofs.lemmas.Str.{IsUtf8-from_ascii}
-use Rattle.std.specs.Result.{OkIff, result_ok}
+use Rattle.std.proofs.lemmas.Option.{none-some, same_Some}
+use Rattle.std.specs.Result.{MatchResult, OkIff, result_ok}
 use Rattle.std.specs.Str.Parse.{AllDigits, ParsesUnsigned, digits_value}
 use Rattle.std.specs.Int.{IsInRange}
-use Rattle.std.specs.List.{AllByRecursion}
+use Rattle.std.specs.List.{All}
 use Rattle.plan.specs.Lines.{Number}
 use Rattle.plan.specs.Steps.{Padded, Reads}
 
@@ -19,9 +20,9 @@ own = numerals_by_value (AllDigits 10) tells_digits
 pub digit_in_decimal : (n : ℕ) → Number n → (i : ℕ) → i < length (decimal n) → IsInRange 48 57 (get_or (decimal n) i 0)
 digit_in_decimal n small i h = digit_at (decimal n) i (decimal_is_IsNumeral n (omega arith)).0.1 h
 
-pub decimal_lacks : (n b : ℕ) → Number n → (IsInRange 48 57 b → ⊥) → AllByRecursion (λ x. x ≡ b → ⊥) (decimal n)
-decimal_lacks n b small other =
-    All-from_get_or (λ x. x ≡ b → ⊥) (decimal n) 0 (λ i h e. other (subst (IsInRange 48 57) e (digit_in_decimal n small i h)))
+pub decimal_lacks : (n b : ℕ) → Number n → (IsInRange 48 57 b → ⊥) → All (λ x. eqb x b ≡ false) (decimal n)
+decimal_lacks n b small other i d h =
+    ne_eqb (get_or (decimal n) i d) b (λ e. other (subst (IsInRange 48 57) (get_or_default (decimal n) i 0 d h ∙ e) (digit_in_decimal n small i h)))
 
 pub some_decimal : (n : ℕ) → Number n → 0 < length (decimal n)
 some_decimal n small = (decimal_is_IsNumeral n (omega arith)).0.0
@@ -63,3 +64,12 @@ number_parsed {E} bs r h unpadded = by_case r (parse_plain own 32 bs r h (no_sig
         λ n small e.
         let d = decimal_is_IsNumeral n (omega arith) in
         none (subst (AllDigits 10) e d.0.1, omega (arith, ap length e, d.0.0), omega (arith, d.1, ap (digits_value 10) e))
+
+-- what `ok` keeps of a result
+pub matched_some : {T E : Type 0} (r : Result T E) (P : T → Type 0) (Q : E → Type 0) → MatchResult r P Q → (x : T) → result_ok r ≡ Some x → P x
+matched_some (Ok y) P Q h x e = subst P (same_Some y x e) h
+matched_some (Err d) P Q h x e = absurd (none-some x e)
+
+pub matched_none : {T E : Type 0} (r : Result T E) (P : T → Type 0) (Q : E → Type 0) → MatchResult r P Q → result_ok r ≡ None → (d : E) × Q d
+matched_none (Ok y) P Q h e = absurd (none-some y (sym e))
+matched_none (Err d) P Q h e = (d, h)

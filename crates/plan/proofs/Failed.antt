@@ -25,37 +25,34 @@ silent_fits = ((omega arith, (omega arith, (omega arith, (omega arith, tt)))), (
 
 module _ (bytes : List ℕ) (short : length bytes ≤ 16384) where
   -- a place that is known by its parts
-  stopped : (sec num s l : ℕ) → s ≡ sec → l ≡ num → StopsAt (cut bytes) (sec, num) → Read bytes (Err (Malformed s l))
-  stopped sec num s l p q h = inr (short, subst (StopsAt (cut bytes)) (sym (λ i. (p i, q i))) h)
+  pub stopped : (sec num : ℕ) {s l : ℕ} → s ≡ sec → l ≡ num → StopsAt (cut bytes) (sec, num) → Read bytes (Err (Malformed s l))
+  stopped sec num p q h = inr (short, subst (StopsAt (cut bytes)) (sym (λ i. (p i, q i))) h)
 
   pub read_no_count : (e : Fault) → NextCount 1 (cut bytes) [] (Err e) → Read bytes (Err e)
-  read_no_count (Malformed s l) (p, q, lacks) = stopped 1 0 s l p q (stops_at_first_count (cut bytes) (lacks 1 (omega arith)))
+  read_no_count (Malformed s l) (p, q, lacks) = stopped 1 0 p q (stops_at_first_count (cut bytes) (lacks 1 (omega arith)))
   read_no_count NoMemory h = short
 
   module _ {n : ℕ} {r1 : List (List ℕ)} (counted : NextCount 1 (cut bytes) r1 (Ok n)) where
-    pub read_other_count : (n ≡ 1 → ⊥) → Read bytes (Err (Malformed 1 0))
-    read_other_count other = inr (
-      short,
-      stops_at_first_count (cut bytes) (λ h.
-          let f = sym (ap (take 1) counted.1) ∙ h in
-          let d : decimal n ≡ decimal 1 = cc in
-          other (decimal_injective n 1 (omega arith) (omega arith) d)),
-    )
+    pub read_other_count : (n ≡ 1 → ⊥) → StopsAt (cut bytes) (1, 0)
+    read_other_count other = stops_at_first_count (cut bytes) (λ h.
+        let f = sym (ap (take 1) counted.1) ∙ h in
+        let d : decimal n ≡ decimal 1 = cc in
+        other (decimal_injective n 1 (omega arith) (omega arith) d))
 
-    pub read_no_longest : n ≡ 1 → (e : Fault) → NextEntry {X = Longest} (λ p. longest_words p.slots) (λ p. []) 1 1 r1 [] (Err e) → Read bytes (Err e)
-    read_no_longest one (Malformed s l) (p, q, lacks) =
-        stopped 1 1 s l p q (stops_at_longest (cut bytes) r1 (counted.1 ∙ ap (λ k. decimal k ∷ r1) one) (λ k small same. lacks (record { slots = k }) ((small, tt), tt) same))
-    read_no_longest one NoMemory h = short
+    pub read_no_longest : n ≡ 1 → (e : Fault) {sec : ℕ} → sec ≡ 1 → NextEntry {X = Longest} (λ p. longest_words p.slots) (λ p. []) sec 1 r1 [] (Err e) → Read bytes (Err e)
+    read_no_longest one (Malformed s l) same (p, q, lacks) =
+        stopped 1 1 (p ∙ same) q (stops_at_longest (cut bytes) r1 (counted.1 ∙ ap (λ k. decimal k ∷ r1) one) (λ k small other. lacks (record { slots = k }) ((small, tt), tt) other))
+    read_no_longest one NoMemory same h = short
 
     module _ (one : n ≡ 1) (x : Longest) {r2 : List (List ℕ)} (longest : NextEntry {X = Longest} (λ p. longest_words p.slots) (λ p. []) 1 1 r1 r2 (Ok x)) where
       pub read_no_channels : (e : Fault) → Sectioned channel_words channel_mats 2 r2 [] (Err e) → Read bytes (Err e)
       read_no_channels (Malformed s l) (same, broken) =
-          stopped 2 l s l same refl
+          stopped 2 l same refl
           (stops_in_channels (cut bytes) x.slots longest.0.0.0 r2 l (longest_read n (line (longest_words x.slots)) (cut bytes) r1 r2 counted.1 one longest.1) (breaks channel_words channel_mats silent silent_fits r2 l broken))
       read_no_channels NoMemory h = short
 
       pub read_no_calls : (cs : Vec Channel Global) (r3 : List (List ℕ)) → Sectioned channel_words channel_mats 2 r2 r3 (Ok cs) → (e : Fault) → Sectioned call_words call_mats 3 r3 [] (Err e) → Read bytes (Err e)
       read_no_calls cs r3 (fit, split) (Malformed s l) (same, broken) =
-          stopped 3 l s l same refl
+          stopped 3 l same refl
           (stops_in_calls (cut bytes) x.slots longest.0.0.0 (vec_items cs) fit r3 l (channels_read n (line (longest_words x.slots)) (cut bytes) r1 r2 (section channel_words (vec_items cs)) r3 counted.1 one longest.1 split) (breaks call_words call_mats (Bulk 0) ((omega arith, tt), tt) r3 l broken))
       read_no_calls cs r3 (fit, split) NoMemory h = short

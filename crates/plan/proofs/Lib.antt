@@ -1,4 +1,3 @@
-pub mod Blanks
 pub mod Breaks
 pub mod Broken
 pub mod Cuts
@@ -8,7 +7,7 @@ pub mod Laws
 pub mod Listed
 pub mod Parsed
 pub mod Parts
+pub mod Pieces
 pub mod Same
 pub mod Spelled
 pub mod Stops
-pub mod Words

@@ -1,12 +1,11 @@
 -- From a line's letter and numbers to its entry.
-use Rattle.std.proofs.Common.{◌≡◌, ℕ, ◌<◌, List, ◌∷◌, length, get_or, Some, None, vec_items, Option, Vec, sym, ap, ◌∙◌, subst}
+use Rattle.std.proofs.Common.{◌≡◌, ℕ, ◌-◌, ◌<◌, take, drop, List, ◌∷◌, length, get_or, Some, None, vec_items, Option, Vec, sym, ap, ◌∙◌, subst}
 use Rattle.std.proofs.lemmas.Slice.{first_rest}
 use Rattle.std.specs.Option.{option_map}
 use Rattle.std.specs.declared.alloc.Global.{Global}
 use Rattle.plan.specs.Lines.{Words, fields, line, Numbers, Fits}
 use Rattle.plan.specs.Steps.{Reads}
-use Rattle.plan.proofs.Blanks.{same_from_fields}
-use Rattle.plan.proofs.Words.{after}
+use Rattle.plan.proofs.Pieces.{same_from_fields}
 
 -- two lines that agree have the same letter and numbers
 pub same_from_line : (v w : Words) → Numbers v.1 → Numbers w.1 → line v ≡ line w → v ≡ w
@@ -15,6 +14,10 @@ same_from_line v w p q e =
     let tail : fields v.1 ≡ fields w.1 = cc in
     let numbers = same_from_fields v.1 w.1 p q tail in
     λ i. (letter i, numbers i)
+
+-- what follows the first byte
+abbrev pub after : List ℕ → List ℕ
+after rest = take (length rest - 1) (drop 1 rest)
 
 module _ {X : Type 0} (words : X → Words) (mats : X → List ℕ) (text : List ℕ) (some : 0 < length text) where
   -- where the rest of a line is no numbers, the line is no entry's

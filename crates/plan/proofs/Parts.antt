@@ -1,11 +1,10 @@
 -- A text whose sections are all read.
-use Rattle.std.proofs.Common.{◌≡◌, ℕ, ◌+◌, ◌≤◌, List, [], ◌∷◌, ◌++◌, length, Ok, Err, vec_items, decimal, ap, ◌∙◌, inr, append-nil, arith}
+use Rattle.std.proofs.Common.{◌≡◌, ℕ, ◌+◌, ◌≤◌, List, [], ◌∷◌, ◌++◌, length, Ok, vec_items, decimal, ap, ◌∙◌, append-nil, arith}
 use Rattle.std.proofs.lemmas.List.{length-append, length-map}
 use Rattle.plan.specs.Format.{section, cut, FitSection}
 use Rattle.plan.specs.Lines.{line, longest_words, channel_words, channel_mats, call_words, call_mats, Number}
-use Rattle.plan.specs.Reading.{Read}
+use Rattle.plan.specs.Reading.{Read, StopsAt}
 use Rattle.plan.specs.Steps.{NextCount, NextEntry, Sectioned}
-use Rattle.plan.specs.declared.Fault.TheVariants.{Malformed}
 use Rattle.plan.specs.declared.Plan.{Plan}
 use Rattle.plan.proofs.Cuts.{length-cut_le}
 use Rattle.plan.proofs.Stops.{stops_after_calls}
@@ -44,9 +43,9 @@ read_whole bytes p h = (
   h.split ∙ ap (λ r. decimal 1 ∷ line (longest_words p.longest) ∷ (section channel_words (vec_items p.channels) ++ r)) (append-nil (section call_words (vec_items p.calls))),
 )
 
-pub read_line_more : (bytes : List ℕ) (p : Plan) {l : List ℕ} {rest : List (List ℕ)} → Parts bytes p (l ∷ rest) → Read bytes (Err (Malformed 3 (length (vec_items p.calls) + 1)))
+pub read_line_more : (bytes : List ℕ) (p : Plan) {l : List ℕ} {rest : List (List ℕ)} → Parts bytes p (l ∷ rest) → StopsAt (cut bytes) (3, length (vec_items p.calls) + 1)
 read_line_more bytes p {l} {rest} h =
-    inr (h.short, stops_after_calls (cut bytes) p.longest h.longest (vec_items p.channels) h.channels (vec_items p.calls) l rest h.calls h.split)
+    stops_after_calls (cut bytes) p.longest h.longest (vec_items p.channels) h.channels (vec_items p.calls) l rest h.calls h.split
 
 pub calls_few : (bytes : List ℕ) (p : Plan) {rest : List (List ℕ)} → Parts bytes p rest → length (vec_items p.calls) ≤ 16384
 calls_few bytes p {rest} h =

@@ -1,6 +1,6 @@
 -- The text of a whole plan, and a text's lines.
 use Rattle.std.specs.Prelude.{ℕ, cond, List, [], ◌∷◌, ◌++◌, map, length, vec_items, decimal, ◌==◌}
-use Rattle.std.specs.List.{flat_map, AllByRecursion}
+use Rattle.std.specs.List.{flat_map, onto_first, AllByRecursion}
 use Rattle.plan.specs.Lines.{Words, line, longest_words, channel_words, channel_mats, call_words, call_mats, Number, Fits}
 use Rattle.plan.specs.declared.Call.{Call}
 use Rattle.plan.specs.declared.Channel.{Channel}
@@ -41,12 +41,7 @@ pub record InRange (s : Script) : Type 0 where
   pub channels : FitSection channel_words channel_mats s.channels
   pub calls : FitSection call_words call_mats s.calls
 
--- A byte in front of the first line; where there is none, a line of its own.
-abbrev pub onto : ℕ → List (List ℕ) → List (List ℕ)
-onto b [] = (b ∷ []) ∷ []
-onto b (l ∷ ls) = (b ∷ l) ∷ ls
-
 -- The lines of a text: a byte 10 ends a line, and the last line may lack it.
 abbrev pub cut : List ℕ → List (List ℕ)
 cut [] = []
-cut (b ∷ bs) = cond (b == 10) ([] ∷ cut bs) (onto b (cut bs))
+cut (b ∷ bs) = cond (b == 10) ([] ∷ cut bs) (onto_first b (cut bs))

@@ -1,9 +1,8 @@
 -- What one step of reading answers: a field, a line, an entry, a section.
 use Rattle.std.specs.Prelude.{◌≡◌, ℕ, suc, ◌<◌, ◌⊎◌, List, [], ◌∷◌, ◌++◌, map, length, take, Some, None, Ok, Err, vec_items, decimal, Option, Result, Vec, ◌≢◌, slice_index}
-use Rattle.std.specs.Borrow.{Bor}
 use Rattle.std.specs.declared.alloc.Global.{Global}
 use Rattle.std.specs.List.{AllByRecursion}
-use Rattle.plan.specs.Format.{cut, section, FitSection}
+use Rattle.plan.specs.Format.{section, FitSection}
 use Rattle.plan.specs.Lines.{Words, line, Number, Fits}
 use Rattle.plan.specs.declared.Fault.{Fault}
 use Rattle.plan.specs.declared.Fault.TheVariants.{Malformed, NoMemory}
@@ -21,22 +20,19 @@ Padded bytes = ((0 < length bytes) × (slice_index bytes 0 ≡ 43)) ⊎ ((1 < le
 abbrev pub Lacks : {X : Type 0} → (X → List ℕ) → (X → Type 0) → List (List ℕ) → Type 0
 Lacks {X} written ok ls = (x : X) → ok x → take 1 ls ≢ written x ∷ []
 
--- The first line of a text and what follows it, or none of an empty text.
-abbrev pub NextLine : List ℕ → List ℕ → Option (Bor (List ℕ)) → Type 0
-NextLine bytes rest (Some l) = cut bytes ≡ l.now ∷ cut rest
-NextLine bytes rest None = cut bytes ≡ []
+-- What stands on the next line, whose place in the plan is `sec` and `num`, or that nothing does which may.
+abbrev pub Next : {X : Type 0} → (X → List ℕ) → (X → Type 0) → ℕ → ℕ → List (List ℕ) → List (List ℕ) → Result X Fault → Type 0
+Next written ok sec num ls rest (Ok x) = ok x × (ls ≡ written x ∷ rest)
+Next written ok sec num ls rest (Err (Malformed s l)) = (s ≡ sec) × (l ≡ num) × Lacks written ok ls
+Next written ok sec num ls rest (Err NoMemory) = Unit {0}
 
--- A count on the next line, or none there.
+-- A count on the next line.
 abbrev pub NextCount : ℕ → List (List ℕ) → List (List ℕ) → Result ℕ Fault → Type 0
-NextCount sec ls rest (Ok n) = Number n × (ls ≡ decimal n ∷ rest)
-NextCount sec ls rest (Err (Malformed s l)) = (s ≡ sec) × (l ≡ 0) × Lacks decimal Number ls
-NextCount sec ls rest (Err NoMemory) = Unit {0}
+NextCount sec ls rest r = Next decimal Number sec 0 ls rest r
 
--- An entry on the next line, or none there.
+-- An entry on the next line.
 abbrev pub NextEntry : {X : Type 0} → (X → Words) → (X → List ℕ) → ℕ → ℕ → List (List ℕ) → List (List ℕ) → Result X Fault → Type 0
-NextEntry words mats sec num ls rest (Ok x) = Fits words mats x × (ls ≡ line (words x) ∷ rest)
-NextEntry words mats sec num ls rest (Err (Malformed s l)) = (s ≡ sec) × (l ≡ num) × Lacks (λ x. line (words x)) (Fits words mats) ls
-NextEntry words mats sec num ls rest (Err NoMemory) = Unit {0}
+NextEntry words mats sec num ls rest r = Next (λ x. line (words x)) (Fits words mats) sec num ls rest r
 
 -- The line at which a section breaks off: there is no count, or after some entries there is none though the count asks for more.
 pub data BrokenAt {X : Type 0} (words : X → Words) (mats : X → List ℕ) (ls : List (List ℕ)) : ℕ → Type 0 where

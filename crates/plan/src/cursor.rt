@@ -1,28 +1,41 @@
 // The lines of a text, one after the other.
-ghost use Rattle.plan.specs.Steps.{NextLine};
+ghost use Rattle.std.specs.Iterator.{YieldsFirstRef, item_count};
 
-use crate::fields::find;
+use std::marker::Model;
 
 #[derive(Drop)]
 pub(crate) struct Lines<'a> {
     pub(crate) rest: &'a [u8],
 }
 
-impl<'a> Lines<'a> {
+// Seen as the lines that are left.
+impl<'a> Model for Lines<'a> {
+    ghost use Rattle.std.specs.Prelude.{List, ℕ};
+    ghost use Rattle.plan.specs.Format.{cut};
+
+    ghost Value = { List (List ℕ) };
+
+    ghost view = { λ a. cut a.rest.now };
+}
+
+impl<'a> Iterator for Lines<'a> {
+    type Item = &'a [u8];
+
+    ghost next_gives = { YieldsFirstRef (λ lines. lines) };
+
+    ghost remaining = { item_count (λ lines. lines) };
+
     // The next line, without the byte 10 that ends it, or none where nothing is left.
-    pub(crate) fn next(&mut self) -> Option<&'a [u8]>
-        ensures { NextLine self.old.rest.now self.new.rest.now result }
-    {
+    fn next(&mut self) -> Option<&'a [u8]> {
         let text = self.rest;
         if text.is_empty() {
             return None;
         }
-        let end = find(text, b'\n');
-        self.rest = if end < text.len() {
-            &text[end + 1..]
-        } else {
-            &[]
+        let Some(end) = text.iter().position(|b| *b == b'\n') else {
+            self.rest = &[];
+            return Some(text);
         };
-        Some(&text[0..end])
+        self.rest = &text[end + 1..];
+        Some(&text[..end])
     }
 }

@@ -33,7 +33,7 @@ pub(crate) struct Longest {
 fn mat(n: u32) -> Option<u8>
     ensures { SomeIff result (n ≤ 255) n }
 {
-    if n <= 255 { Some(n as u8) } else { None }
+    u8::try_from(n).ok()
 }
 
 impl Entry for Longest {

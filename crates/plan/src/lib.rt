@@ -12,7 +12,7 @@ mod sections;
 
 use cursor::Lines;
 use entries::Longest;
-use sections::{count, entry, section};
+use sections::Reader;
 use std::alloc::{AllocError, AllocFailed, Global};
 use traffic::bucket::Bucket;
 use traffic::mixture::Mixture;
@@ -88,25 +88,23 @@ fn plan_of(heap: Global, text: &[u8]) -> Result<Plan, Fault>
     requires { length text.now ≤ 16384 }
     ensures { Read text.now result }
 {
-    let mut lines = Lines { rest: text };
-    if count(&mut lines, 1)? != 1 {
-        return Err(Fault::Malformed {
-            section: 1,
-            line: 0,
-        });
+    let mut reader = Reader {
+        heap,
+        lines: Lines { rest: text },
+        section: 1,
+    };
+    if reader.count()? != 1 {
+        return Err(reader.malformed(0));
     }
-    let longest: Longest = entry(heap, &mut lines, 1, 1)?;
-    let channels = section(heap, &mut lines, 2)?;
-    let calls: Vec<Call> = section(heap, &mut lines, 3)?;
-    match lines.next() {
+    let longest: Longest = reader.entry(1)?;
+    let channels = reader.section(2)?;
+    let calls: Vec<Call> = reader.section(3)?;
+    match reader.lines.next() {
         None => Ok(Plan {
             longest: longest.slots,
             channels,
             calls,
         }),
-        Some(_) => Err(Fault::Malformed {
-            section: 3,
-            line: calls.len() as u32 + 1,
-        }),
+        Some(_) => Err(reader.malformed(calls.len() as u32 + 1)),
     }
 }

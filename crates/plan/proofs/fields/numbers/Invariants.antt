@@ -1,9 +1,6 @@
-use Rattle.std.proofs.Common.{length, vec_items}
-use Rattle.plan.proofs.Words.{SoFar}
+use Rattle.std.proofs.Common.{◌≡◌, map, decimal, vec_items}
+use Rattle.plan.specs.Lines.{Numbers}
 use Rattle.plan.proofs.fields.numbers.Given as goal
 
-abbrev pub invariant-loop-rest : goal.invariant-loop-rest
-invariant-loop-rest l = SoFar l.tail (vec_items l.items) l.rest
-
-abbrev pub decreases-loop-rest : goal.decreases-loop-rest
-decreases-loop-rest l = length l.rest
+abbrev pub invariant-loop-field : goal.invariant-loop-field
+invariant-loop-field l = Numbers (vec_items l.items) × (map decimal (vec_items l.items) ≡ map (λ field. field.now) l.yielded)
