@@ -1,9 +1,18 @@
 -- The rises of a sum of two functions that never fall.
-use Rattle.std.proofs.Common.{◌≡◌, ℕ, ◌+◌, ◌-◌, ◌<◌, ◌≤◌, min, ◌⊎◌, Some, None, Option, subst, inl, inr, ⊎_elim, arith}
+use Rattle.std.proofs.Common.{◌≡◌, ℕ, ◌+◌, ◌-◌, ◌<◌, ◌≤◌, min, ◌⊎◌, List, [], ◌∷◌, ◌++◌, Some, None, Option, ap, ◌∙◌, subst, inl, inr, ⊎_elim, arith}
+use Rattle.std.specs.List.{AllByRecursion}
+use Rattle.std.proofs.ByRecursion.{All-map}
 use Rattle.std.proofs.lemmas.Bool.{cases_lt}
-use Rattle.traffic.specs.Curves.{before, Rises, NextRise}
-use Rattle.traffic.specs.Staircase.{before_later}
+use Rattle.traffic.specs.Curves.{Numbers, before, Rises, NextRise}
+use Rattle.traffic.specs.Laws.{CurveLaws}
+use Rattle.traffic.specs.Staircase.{before_later, flat_no_rise}
+use Rattle.traffic.specs.declared.Row.{Row}
+use Rattle.verdict.specs.Demand.{curves}
+use Rattle.verdict.proofs.FinitePoints.{curves_never_fall}
+use Rattle.verdict.proofs.Totals.{total-push}
 use Rattle.overview.specs.Picture.{sooner}
+use Rattle.overview.specs.Standing.{kinds}
+use Rattle.overview.proofs.Rowwise.{kinds_push}
 
 module _ (F G sum : ℕ → ℕ) (up-F : (t u : ℕ) → t ≤ u → F t ≤ F u) (up-G : (t u : ℕ) → t ≤ u → G t ≤ G u) (is : (v : ℕ) → sum v ≡ F v + G v) where
   sum_before : (v : ℕ) → 0 < v → before sum v ≡ before F v + before G v
@@ -36,3 +45,22 @@ module _ (F G sum : ℕ → ℕ) (up-F : (t u : ℕ) → t ≤ u → F t ≤ F u
             (cases_lt x y),
         λ v more less rise. ⊎_elim (f.2 v more (omega arith)) (g.2 v more (omega arith)) (one_rises v (omega arith) rise),
       )
+
+pub none_rises : {K : Type 0} (m : K → Numbers) (t : ℕ) → NextRise (curves m []) t None
+none_rises m t v more = flat_no_rise (curves m []) v (omega arith) (omega arith)
+
+front_and_last : {X : Type 0} (P : X → Type 0) (xs : List X) (x : X) → AllByRecursion P (xs ++ x ∷ []) → AllByRecursion P xs × P x
+front_and_last P [] x all = (tt, all.0)
+front_and_last P (y ∷ ys) x all = let rest = front_and_last P ys x all.1 in ((all.0, rest.0), rest.1)
+
+module _ {K S : Type 0} (m : K → Numbers) (p t : ℕ) where
+  -- the next rise of the demand of some rows that keep the laws
+  abbrev pub Next : List (Row K S) → Option ℕ → Type 0
+  Next rs first = AllByRecursion (λ r. CurveLaws p (m r.kind)) rs → NextRise (curves m (kinds rs)) t first
+
+  -- with one row more it is the sooner of the two
+  pub next_sooner : (rs : List (Row K S)) (r : Row K S) (first next : Option ℕ) → Next rs first → NextRise (m r.kind).curve t next → Next (rs ++ r ∷ []) (sooner first next)
+  next_sooner rs r first next so_far here laws =
+      let both = front_and_last (λ x. CurveLaws p (m x.kind)) rs r laws in
+      sooner_rise (curves m (kinds rs)) (m r.kind).curve (curves m (kinds (rs ++ r ∷ []))) (curves_never_fall m p (kinds rs) (All-map (λ k. CurveLaws p (m k)) (λ x. x.kind) rs both.0)) both.1.never_falls
+      (λ v. ap (λ ks. curves m ks v) (kinds_push rs r) ∙ total-push (λ k. (m k).curve v) (kinds rs) r.kind) t first next (so_far both.0) here

@@ -1,15 +1,13 @@
 -- What the picture shows of channels that stand together: points, the demand there and the slack.
-use Rattle.std.specs.Prelude.{◌≡◌, ℕ, ◌+◌, ◌-◌, ◌<◌, ◌≤◌, min, Bool, cond, List, Some, None, Option, nat_le}
-use Rattle.traffic.specs.Curves.{Numbers, Rises}
-use Rattle.overview.specs.Standing.{kinds, Stands}
+use Rattle.std.specs.Prelude.{◌≡◌, ℕ, ◌+◌, ◌-◌, ◌<◌, ◌≤◌, min, cond, List, Some, None, Option, nat_le}
+use Rattle.traffic.specs.Curves.{Rises}
+use Rattle.traffic.specs.declared.Curve.{Ghosts as CurveGhosts}
+use Rattle.overview.specs.Standing.{kinds}
 use Rattle.overview.specs.declared.rows.Granted.{Granted}
 use Rattle.overview.specs.declared.rows.Point.{Point}
 
-abbrev pub channels : {K S : Type 0} → Granted K S → List K
+abbrev pub channels : {K S : Type 0} {c : CurveGhosts K} → Granted K S c → List K
 channels g = kinds g.rows.now
-
-abbrev pub stands : {K S : Type 0} → (K → Numbers) → (K → ℕ → Bool) → Granted K S → Type 0
-stands m limits g = Stands m limits g.longest (channels g)
 
 -- the smaller of two, where there are two
 abbrev pub sooner : Option ℕ → Option ℕ → Option ℕ

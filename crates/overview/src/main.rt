@@ -4,7 +4,6 @@
 
 ghost use Rattle.std.specs.Prelude.{◌<◌, ◌≤◌, IfOk};
 ghost use Rattle.plan.specs.Kinds.{kind_numbers, kind_limits};
-ghost use Rattle.overview.specs.Picture.{stands};
 ghost use Rattle.overview.specs.Standing.{kinds, Stands};
 
 mod points;
@@ -38,26 +37,24 @@ fn marks<K: Curve>(
     granted: &Granted<'_, K, Sender>,
     t: u32,
 ) -> Result<String, AllocError>
-    requires stands { stands K.Curve.numbers K.Curve.limits granted.now }
-    requires some { 0 < t }
+    requires { 0 < t }
 {
-    let mut text = String::new(heap);
-    for row in granted.rows {
-        text.push(if rises(&row.kind, t) {
-            row.state.letter
-        } else {
-            '.'
-        })?;
-    }
-    Ok(text)
+    granted
+        .rows
+        .iter()
+        .map(|row| {
+            if rises(&row.kind, t) {
+                row.state.letter
+            } else {
+                '.'
+            }
+        })
+        .collect(heap)
 }
 
 // A mark for each slot, cut where there are too many.
 fn bar(heap: Global, slots: u64) -> Result<String, AllocError> {
-    let mut text = String::new(heap);
-    for _ in 0..slots.min(LONGEST_BAR) {
-        text.push('#')?;
-    }
+    let mut text = "#".repeat(heap, slots.min(LONGEST_BAR) as usize)?;
     if slots > LONGEST_BAR {
         text.push('+')?;
     }
@@ -65,9 +62,7 @@ fn bar(heap: Global, slots: u64) -> Result<String, AllocError> {
 }
 
 // A line for each of the first points: up to twice the largest allowance, and not too many.
-fn print_points<K: Curve>(rt: &HostRuntime, granted: &Granted<'_, K, Sender>) -> io::Result<()>
-    requires { stands K.Curve.numbers K.Curve.limits granted.now }
-{
+fn print_points<K: Curve>(rt: &HostRuntime, granted: &Granted<'_, K, Sender>) -> io::Result<()> {
     println!(rt; "\n    t demand  slack  rises")?;
     let end = 2 * granted.largest_allowance() + 1;
     let mut after = 0;
@@ -84,9 +79,7 @@ fn print_points<K: Curve>(rt: &HostRuntime, granted: &Granted<'_, K, Sender>) ->
 }
 
 // The table of points, and below it the smallest slack of all.
-fn print_table<K: Curve>(rt: &HostRuntime, granted: &Granted<'_, K, Sender>) -> io::Result<()>
-    requires { stands K.Curve.numbers K.Curve.limits granted.now }
-{
+fn print_table<K: Curve>(rt: &HostRuntime, granted: &Granted<'_, K, Sender>) -> io::Result<()> {
     let Some(Point { t, slack, .. }) = granted.tightest() else {
         return println!(rt; "no channel is granted");
     };

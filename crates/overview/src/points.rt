@@ -3,7 +3,7 @@ ghost use Rattle.std.specs.Prelude.{◌≡◌, ◌<◌, ◌≤◌, Decides};
 ghost use Rattle.traffic.specs.Curves.{Rises, NextRise};
 ghost use Rattle.traffic.specs.Laws.{Within};
 ghost use Rattle.verdict.specs.Demand.{curves, largest};
-ghost use Rattle.overview.specs.Picture.{channels, stands, sooner, closer, NextPoint, Tightest};
+ghost use Rattle.overview.specs.Picture.{channels, sooner, closer, NextPoint, Tightest};
 
 use crate::rows::{Granted, Point};
 use traffic::{Curve, FRAME};
@@ -14,8 +14,7 @@ fn earlier(a: Option<u64>, b: Option<u64>) -> Option<u64>
 {
     match (a, b) {
         (Some(x), Some(y)) => Some(x.min(y)),
-        (Some(x), None) => Some(x),
-        (None, _) => b,
+        _ => a.or(b),
     }
 }
 
@@ -31,31 +30,22 @@ pub(crate) fn rises<K: Curve>(kind: &K, t: u32) -> bool
 impl<'a, K: Curve, S: Copy> Granted<'a, K, S> {
     // The most that the channels can offer from some slot a on and have due by a + t.
     fn demand(&self, t: u32) -> u64
-        requires { stands K.Curve.numbers K.Curve.limits self.now }
         ensures { result ≡ curves K.Curve.numbers (channels self.now) t }
     {
-        let mut sum = 0;
-        for row in self.rows {
-            sum += row.kind.curve(t);
-        }
-        sum
+        self.rows.iter().map(|row| row.kind.curve(t)).sum()
     }
 
     // The first t after the given one at which the demand rises, or none.
     fn next_rise(&self, t: u32) -> Option<u64>
-        requires { stands K.Curve.numbers K.Curve.limits self.now }
         ensures { NextRise (curves K.Curve.numbers (channels self.now)) t result }
     {
-        let mut first = None;
-        for row in self.rows {
-            first = earlier(first, row.kind.next_rise(t));
-        }
-        first
+        self.rows
+            .iter()
+            .fold(None, |first, row| earlier(first, row.kind.next_rise(t)))
     }
 
     // The first point after t and before the end, if there is one.
     pub(crate) fn point_after(&self, t: u32, end: u32) -> Option<Point>
-        requires { stands K.Curve.numbers K.Curve.limits self.now }
         ensures { NextPoint (curves K.Curve.numbers (channels self.now)) self.now.longest t end result }
     {
         let next = self.next_rise(t)?;
@@ -73,20 +63,18 @@ impl<'a, K: Curve, S: Copy> Granted<'a, K, S> {
 
     // The largest allowance, 0 where there is no channel.
     pub(crate) fn largest_allowance(&self) -> u32
-        requires { stands K.Curve.numbers K.Curve.limits self.now }
         ensures { (result ≡ largest (λ k. (K.Curve.numbers k).allowance) (channels self.now)) × (result ≤ 40320) }
     {
-        let mut most: u32 = 0;
-        for row in self.rows {
-            most = most.max(row.kind.allowance());
-        }
-        most
+        self.rows
+            .iter()
+            .map(|row| row.kind.allowance())
+            .max()
+            .unwrap_or(0)
     }
 
     // The point that leaves the least slack, of all points that there are; a look at the first frame after the largest
     // allowance is enough. None where there is no channel.
     pub(crate) fn tightest(&self) -> Option<Point>
-        requires { stands K.Curve.numbers K.Curve.limits self.now }
         ensures { Tightest (curves K.Curve.numbers (channels self.now)) self.now.longest result }
     {
         let end = self.largest_allowance() + FRAME;
@@ -104,8 +92,7 @@ impl<'a, K: Curve, S: Copy> Granted<'a, K, S> {
 fn tighter(least: Option<Point>, point: Point) -> Point
     ensures { result ≡ closer least point }
 {
-    match least {
-        Some(other) if other.slack <= point.slack => other,
-        _ => point,
-    }
+    least
+        .filter(|other| other.slack <= point.slack)
+        .unwrap_or(point)
 }

@@ -34,12 +34,7 @@ const COUNTED: [bool; 32] = [true; 32];
 
 // Whether a mat sends in one of these rows.
 fn has_mat<K: Curve>(rows: &[Row<K, Sender>], mat: u8) -> bool {
-    for row in rows {
-        if row.state.mat == mat {
-            return true;
-        }
-    }
-    false
+    rows.iter().any(|row| row.state.mat == mat)
 }
 
 // Why a link would refuse the mat's channel beside these, the smallest number first; none where it would grant it.

@@ -1,5 +1,8 @@
 // The rows of the picture.
-use traffic::Row;
+ghost use Rattle.std.proofs.Props.{props};
+ghost use Rattle.overview.specs.Standing.{kinds, Stands};
+
+use traffic::{Curve, Row};
 
 // Who sends in a row: its letter in the picture and its mat.
 #[derive(Clone, Copy)]
@@ -10,9 +13,10 @@ pub(crate) struct Sender {
 
 // The channels granted on a link whose longest packet has `longest` slots.
 #[derive(Drop)]
-pub(crate) struct Granted<'a, K, S> {
+pub(crate) struct Granted<'a, K: Curve, S> {
     pub(crate) rows: &'a [Row<K, S>],
     pub(crate) longest: u32,
+    ghost stands: { Stands K.Curve.numbers K.Curve.limits longest (kinds rows.now) } by { Prim.hlevel props },
 }
 
 // A t at which the demand rises: the demand there, and the slots that it leaves beside the blocking.

@@ -1,29 +1,25 @@
-use Rattle.std.proofs.Common.{◌+◌, take, sym, subst}
+use Rattle.std.proofs.Common.{◌≡◌, ℕ, [], ◌∷◌, ◌++◌, Option, sym, subst, rules}
+use Rattle.std.proofs.lemmas.Fn.{fold_over, slice_gives, fronts}
 use Rattle.traffic.specs.Curves.{NextRise}
 use Rattle.traffic.specs.Laws.{CurveLaws}
-use Rattle.verdict.specs.Demand.{curves}
-use Rattle.verdict.proofs.FinitePoints.{curves_never_fall}
 use Rattle.verdict.proofs.Rowwise.{row_laws}
-use Rattle.overview.specs.Standing.{kinds}
-use Rattle.overview.proofs.Rising.{sooner_rise}
-use Rattle.overview.proofs.Rowwise.{kinds_all, kinds_hold, front_holds, row_within, demand_more}
+use Rattle.overview.specs.Picture.{sooner}
+use Rattle.overview.proofs.Rising.{Next, none_rises, next_sooner}
+use Rattle.overview.proofs.Rowwise.{serves_rows, rows_hold}
 use Rattle.overview.proofs.rows.Granted.next_rise.Goals as goal
 
-pub next_rise-requires : goal.next_rise-requires
-next_rise-requires g c = row_within _ _ _ _ c.requires _ _ c.loop-row-test.true c.row-item.is
-
-pub loop-row-preserved : goal.loop-row-preserved
-loop-row-preserved g c =
-    let m = g.K.Curve.numbers in
-    let p = c.args.self.now.longest in
-    let rs = c.args.self.now.rows.now in
-    let i = c.loop-row.row-index in
-    let laws = row_laws m _ g.met.K.Curve.shaped c.requires.judged in
-    let here = kinds_hold (λ k. CurveLaws p (m k)) rs i _ c.loop-row-test.true c.row-item.is laws in
-    let before = curves_never_fall m p _ (front_holds (λ k. CurveLaws p (m k)) rs i laws) in
-    let both = sooner_rise _ _ _ before here.never_falls (demand_more m _ p rs c.requires i _ c.loop-row-test.true c.row-item.is) c.args.t _ _ c.loop-row.invariant c.next_rise.ensures in
-    subst (NextRise (curves m (kinds (take (i + 1) rs))) c.args.t) (sym c.earlier-first.ensures) both
+pub fold-requires-clause-callable : goal.fold-requires-clause-callable
+fold-requires-clause-callable g c = serves_rows _ _ _ _ c.args.self.now.stands _ _ _ _ (cc) (λ q x w. search (rules, w))
 
 pub returns : goal.returns
 returns g c =
-    subst (λ ks. NextRise (curves g.K.Curve.numbers ks) c.args.t c.loop-row.first) (kinds_all _ _ c.loop-row-test.false) c.loop-row.invariant
+    let self = c.args.self.now in
+    let m = g.K.Curve.numbers in
+    let t = c.args.t in
+    let laws = rows_hold (λ k. CurveLaws self.longest (m k)) self.rows.now (row_laws m _ g.met.K.Curve.shaped self.stands.judged) in
+    let next = fold_over fronts (λ x. x.now) _ (Next m self.longest t) _
+    (λ rs first x next f so_far k.
+    let here : (b : Option ℕ) × NextRise (m x.now.kind).curve t b × (next ≡ sooner first b) = search rules in
+    (subst (λ o. Next m self.longest t (rs ++ x.now ∷ []) o) (sym here.2) (next_sooner m self.longest t rs x.now first here.0 so_far here.1), search rules))
+    c.iter.result _ _ _ (slice_gives c.iter.result) (λ _. none_rises m t) c.fold.ensures.ran in
+    subst (λ rs. Next m self.longest t rs c.fold.result) c.iter.ensures.rest next laws

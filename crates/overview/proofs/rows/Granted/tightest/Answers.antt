@@ -6,7 +6,7 @@ use Rattle.overview.proofs.Tightening.{SoFar, no_point_at_zero, one_more_so_far,
 use Rattle.overview.proofs.rows.Granted.tightest.Goals as goal
 
 pub loop-point-init : goal.loop-point-init
-loop-point-init g c = no_point_at_zero _ _ _ (row_laws _ _ g.met.K.Curve.shaped c.requires.judged) c.requires.passes.works_fit
+loop-point-init g c = no_point_at_zero _ _ _ (row_laws _ _ g.met.K.Curve.shaped c.args.self.now.stands.judged) c.args.self.now.stands.passes.works_fit
 
 pub loop-point-preserved : goal.loop-point-preserved
 loop-point-preserved g c =
@@ -20,7 +20,7 @@ returns g c =
     let self = c.args.self.now in
     let m = g.K.Curve.numbers in
     let ks = channels self in
-    let laws = row_laws m _ g.met.K.Curve.shaped c.requires.judged in
+    let laws = row_laws m _ g.met.K.Curve.shaped c.args.self.now.stands.judged in
     let end : c.largest_allowance-end.result + 5040 ≡ horizon m ks = omega (arith, c.largest_allowance-end.ensures.0) in
     let last = subst (λ h. NextPoint (curves m ks) self.longest c.loop-point.t h None) end c.in_default.ensures in
-    tightest_of_all m self.longest ks laws c.requires.passes.works_fit c.loop-point.t _ c.loop-point.invariant last
+    tightest_of_all m self.longest ks laws c.args.self.now.stands.passes.works_fit c.loop-point.t _ c.loop-point.invariant last
