@@ -1,11 +1,10 @@
--- Channels that stand together on a link, and one more beside them.
-use Rattle.std.specs.Prelude.{ℕ, Bool, List, [], ◌∷◌, ◌++◌, map, length, Some, None, Option}
+-- Channels that stand together on a link.
+use Rattle.std.specs.Prelude.{ℕ, Bool, List, map, length}
 use Rattle.traffic.specs.Curves.{Numbers}
 use Rattle.traffic.specs.declared.Row.{Row}
 use Rattle.verdict.specs.Demand.{blocking}
 use Rattle.verdict.specs.Judged.{Judgeable}
 use Rattle.verdict.specs.Passes.{Passes}
-use Rattle.overview.specs.declared.refusals.Refusal.{Refusal}
 
 -- the kinds in some rows
 abbrev pub kinds : {K S : Type 0} → List (Row K S) → List K
@@ -15,8 +14,3 @@ kinds rs = map (λ r. r.kind) rs
 pub record Stands {K : Type 0} (m : K → Numbers) (limits : K → ℕ → Bool) (p : ℕ) (ks : List K) : Type 0 where
   pub judged : Judgeable limits p (length ks) ks
   pub passes : Passes m (blocking p) ks
-
--- where no refusal is answered, the channels stand with the new one
-abbrev pub MayJoin : {K : Type 0} → (K → Numbers) → (K → ℕ → Bool) → ℕ → List K → K → Option Refusal → Type 0
-MayJoin m limits p ks k None = Stands m limits p (ks ++ k ∷ [])
-MayJoin m limits p ks k (Some refusal) = Unit {0}

@@ -6,13 +6,13 @@ ghost use Rattle.std.specs.Prelude.{◌<◌, ◌≤◌, IfOk};
 ghost use Rattle.plan.specs.Kinds.{kind_numbers, kind_limits};
 ghost use Rattle.overview.specs.Standing.{kinds, Stands};
 
+mod grants;
 mod points;
-mod refusals;
 mod rows;
 
+use grants::{Reason, may_join};
 use plan::{Channel, Fault, Kind, Plan, read};
 use points::rises;
-use refusals::why_refused;
 use rows::{Granted, Point, Sender};
 use std::alloc::{AllocError, Global};
 use std::io;
@@ -126,15 +126,16 @@ fn take_channels(
     let mut rows = Vec::new(rt.alloc());
     for channel in channels {
         let mat = channel.mat;
-        if let Some(reason) = why_refused(&rows, longest, mat, channel.kind) {
-            println!(rt; "- mat {mat}: refused, {reason}")?;
-        } else {
-            let letter = char::from(LETTERS[rows.len()]);
-            rows.push(Row {
-                kind: channel.kind,
-                state: Sender { letter, mat },
-            })?;
-            print_channel(rt, letter, channel)?;
+        match may_join(&rows, longest, mat, channel.kind) {
+            Err(refusal) => println!(rt; "- mat {mat}: refused, {}", Reason(refusal))?,
+            Ok(()) => {
+                let letter = char::from(LETTERS[rows.len()]);
+                rows.push(Row {
+                    kind: channel.kind,
+                    state: Sender { letter, mat },
+                })?;
+                print_channel(rt, letter, channel)?;
+            }
         }
     }
     Ok(rows)
