@@ -22,6 +22,7 @@ pub fn needed<K: Traffic>()
 {}
 
 // The theorems are not empty: a channel that passes, with arrivals and their schedule, and one that fails by one slot.
+#[tactic(auto, using(crate::proofs::Worked::worked))]
 pub fn examples_stand()
     ensures { Examples }
 {}

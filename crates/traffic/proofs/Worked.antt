@@ -8,7 +8,7 @@ use Rattle.traffic.specs.Spaced.{spaced_step}
 -- A refused packet, and a taken one, in front of a list.
 
 refused_first : {S : Type 0} (step : S → ℕ → ℕ → Option S) (s : S) (a : ℕ) (p : Arrival) (ps : List Arrival) → step s p.slot p.len ≡ None → Taken step s a (p ∷ ps) → ⊥
-refused_first step s a p ps e r = let h = r.2 in let z : ◌≡◌ {A = ℕ} 0 1 = cc in omega arith
+refused_first step s a p ps e r = let h = r.2 in cc
 
 taken_first : {S : Type 0} (step : S → ℕ → ℕ → Option S) (s t : S) (a : ℕ) (p : Arrival) (ps : List Arrival) → step s p.slot p.len ≡ Some t → Taken step s a (p ∷ ps) → Taken step t p.slot ps
 taken_first step s t a p ps e r = let h = r.2 in let same : r.0 ≡ t = cc in subst (λ x. Taken step x p.slot ps) same r.3

@@ -1,7 +1,8 @@
 -- Some lawful list of a bucket meets the curve.
 use Rattle.std.specs.Prelude.{◌≡◌, ℕ, zero, suc, ◌+◌, ◌-◌, ◌*◌, ◌/◌, ◌<◌, ◌≤◌, max, cond, ◌&&◌, List, [], ◌∷◌, nat_le}
 use Rattle.std.proofs.Common.{sym, ap, ◌∙◌, ⊎_elim, le_refl, zero-add, suc-mul, zero-mul, mul-suc, mul-add, mul-le-mul_left, arith}
-use Rattle.std.proofs.lemmas.Bool.{cases_lt, cond-true, cond-false, and_from, and_right, le-leb, lt-leb}
+use Rattle.std.proofs.lemmas.Bool.{cases_lt}
+use Rattle.std.proofs.lemmas.Bool.Decides.{nat_tests}
 use Rattle.traffic.specs.Arrivals.{Arrival, Taken, demand}
 use Rattle.traffic.specs.Bucket.{bucket_step}
 use Rattle.traffic.specs.Curves.{staircase}
@@ -36,10 +37,10 @@ at_once_taken T C b pos n (suc j) z h =
 -- Its demand from slot 0 is the curve, as far as the list goes.
 
 due_counts : (C d s u : ℕ) → s + d ≤ u → cond (nat_le 0 s && nat_le (s + d) (0 + u)) C 0 ≡ C
-due_counts C d s u h = cond-true _ C 0 (and_from (nat_le 0 s) (nat_le (s + d) (0 + u)) (le-leb 0 s (omega arith)) (le-leb (s + d) (0 + u) (omega arith)))
+due_counts C d s u h = grind (arith, nat_tests)
 
 not_due_counts_not : (C d s u : ℕ) → u < s + d → cond (nat_le 0 s && nat_le (s + d) (0 + u)) C 0 ≡ 0
-not_due_counts_not C d s u h = cond-false _ C 0 (and_right (nat_le 0 s) (nat_le (s + d) (0 + u)) (lt-leb (s + d) (0 + u) (omega arith)))
+not_due_counts_not C d s u h = grind (arith, nat_tests)
 
 every_period_demand : (T C d u : ℕ) → 1 ≤ T → (n s : ℕ) → u < s + d + n * T → demand d 0 u (every_period T C s n) ≡ staircase T C 1 (s + d) u
 unfolding every_period

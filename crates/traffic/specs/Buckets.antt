@@ -1,14 +1,14 @@
 -- The laws of bucket traffic.
-use Rattle.std.specs.Prelude.{◌≡◌, ℕ, suc, ◌+◌, ◌-◌, ◌*◌, ◌/◌, ◌%◌, ◌<◌, ◌≤◌, max, true, Some, ◌==◌, nat_le, refl}
+use Rattle.std.specs.Prelude.{◌≡◌, ℕ, suc, ◌+◌, ◌-◌, ◌*◌, ◌/◌, ◌%◌, ◌≤◌, max, true, Some, refl}
 use Rattle.std.proofs.Common.{sym, subst, ◌∙◌, le_refl, mul-le-mul, arith}
-use Rattle.std.proofs.lemmas.Bool.{and_parts, leb-true, eqb-true}
+use Rattle.std.proofs.lemmas.Bool.Decides.{nat_tests}
 use Rattle.traffic.specs.Bucket.{bucket_limits, bucket, bucket_steps}
 use Rattle.traffic.specs.Curves.{NextRise, staircase}
 use Rattle.traffic.specs.Laws.{CurveLaws, Redated, TrafficLaws}
 use Rattle.traffic.specs.Attained.{every_period, at_once, at_once_taken, meets_curve}
 use Rattle.traffic.specs.Bounded.{taken_bounded}
 use Rattle.traffic.specs.Credits.{is_taken, taken_lengths, taken_later}
-use Rattle.traffic.specs.Staircase.{work_most, staircase_before, staircase_after, staircase_never_falls, staircase_starts, staircase_repeats, staircase_under_line, first_rise, later_rise}
+use Rattle.traffic.specs.Staircase.{work_most, staircase_before, staircase_after, staircase_never_falls, staircase_starts, staircase_repeats, staircase_under_line, later_rise}
 
 -- The limits, as facts.
 
@@ -24,22 +24,15 @@ pub record BucketLimits (T C b d p : ℕ) : Type 0 where
 
 pub limits_facts : (T C b d p : ℕ) → bucket_limits T C b d p ≡ true → BucketLimits T C b d p
 limits_facts T C b d p h =
-    let x0 = and_parts _ _ h in
-    let xT = and_parts (nat_le 1 T) (5040 % T == 0) x0.0 in
-    let x1 = and_parts (nat_le 1 C) _ x0.1 in
-    let x2 = and_parts (nat_le C p) _ x1.1 in
-    let x3 = and_parts (nat_le 1 b) _ x2.1 in
-    let x4 = and_parts (nat_le b 8) _ x3.1 in
-    let x5 = and_parts (nat_le C d) (nat_le d 40320) x4.1 in
     record {
-      period = leb-true 1 T xT.0;
-      divides = eqb-true (5040 % T) 0 xT.1;
-      longest_least = leb-true 1 C x1.0;
-      longest_most = leb-true C p x2.0;
-      depth_least = leb-true 1 b x3.0;
-      depth_most = leb-true b 8 x4.0;
-      allowance_least = leb-true C d x5.0;
-      allowance_most = leb-true d 40320 x5.1;
+      period = grind (arith, nat_tests);
+      divides = grind (arith, nat_tests);
+      longest_least = grind (arith, nat_tests);
+      longest_most = grind (arith, nat_tests);
+      depth_least = grind (arith, nat_tests);
+      depth_most = grind (arith, nat_tests);
+      allowance_least = grind (arith, nat_tests);
+      allowance_most = grind (arith, nat_tests);
     }
 
 -- The laws of the numbers and the curve.
@@ -72,11 +65,6 @@ bucket_redated T C b d e = record {
 }
 
 -- What next rise answers, within the limits.
-
-pub bucket_first_rise : (T C b d p t u : ℕ) → bucket_limits T C b d p ≡ true → t < d → d ≡ u → NextRise (staircase T C b d) t (Some u)
-bucket_first_rise T C b d p t u h lt e =
-    let lim = limits_facts T C b d p h in
-    subst (λ x. NextRise (staircase T C b d) t (Some x)) e (first_rise T C b d t lim.longest_least lim.depth_least lt)
 
 pub bucket_later_rise : (T C b d p t u : ℕ) → bucket_limits T C b d p ≡ true → d ≤ t → d + ((t - d) / T + 1) * T ≡ u → NextRise (staircase T C b d) t (Some u)
 bucket_later_rise T C b d p t u h le e =

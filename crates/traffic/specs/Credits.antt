@@ -1,22 +1,15 @@
 -- A packet from a bucket: when it is taken, and the credit slot that it leaves.
-use Rattle.std.specs.Prelude.{◌≡◌, ℕ, ◌+◌, ◌-◌, ◌*◌, ◌≤◌, max, ◌&&◌, List, [], ◌∷◌, Some, None, nat_le}
+use Rattle.std.specs.Prelude.{◌≡◌, ℕ, ◌+◌, ◌-◌, ◌*◌, ◌≤◌, max, List, [], ◌∷◌, Some}
 use Rattle.std.proofs.Common.{le_refl, arith}
-use Rattle.std.proofs.lemmas.Bool.{cond-true, and_from, and_parts, leb-true, le-leb}
+use Rattle.std.proofs.lemmas.Bool.Decides.{nat_tests}
 use Rattle.traffic.specs.Arrivals.{Arrival, Taken, later, Lengths}
 use Rattle.traffic.specs.Bucket.{bucket_step}
-use Rattle.traffic.specs.Lists.{passed_test}
 
 pub taken_facts : (T C b z s l t : ℕ) → bucket_step T C b z s l ≡ Some t → (1 ≤ l) × (l ≤ C) × (z ≤ s + (b - 1) * T) × (t ≡ max z s + T)
-taken_facts T C b z s l t e =
-    let x = passed_test (nat_le 1 l && (nat_le l C && nat_le z (s + (b - 1) * T))) (max z s + T) t e in
-    let y = and_parts (nat_le 1 l) (nat_le l C && nat_le z (s + (b - 1) * T)) x.0 in
-    let w = and_parts (nat_le l C) (nat_le z (s + (b - 1) * T)) y.1 in
-    (leb-true 1 l y.0, leb-true l C w.0, leb-true z (s + (b - 1) * T) w.1, x.1)
+taken_facts T C b z s l t e = (grind (arith, nat_tests), grind (arith, nat_tests), grind (arith, nat_tests), grind (arith, nat_tests))
 
 pub is_taken : (T C b z s l : ℕ) → 1 ≤ l → l ≤ C → z ≤ s + (b - 1) * T → bucket_step T C b z s l ≡ Some (max z s + T)
-is_taken T C b z s l p q r =
-    cond-true (nat_le 1 l && (nat_le l C && nat_le z (s + (b - 1) * T))) (Some (max z s + T)) None
-    (and_from (nat_le 1 l) (nat_le l C && nat_le z (s + (b - 1) * T)) (le-leb 1 l p) (and_from (nat_le l C) (nat_le z (s + (b - 1) * T)) (le-leb l C q) (le-leb z (s + (b - 1) * T) r)))
+is_taken T C b z s l p q r = grind (arith, nat_tests)
 
 -- Lengths are 1 to C, and a list moved later is taken from every credit that is moved no further.
 

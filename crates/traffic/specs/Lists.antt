@@ -1,5 +1,5 @@
 -- Lists of packets: which are lawful, what they ask for, and the same steps over another state.
-use Rattle.std.specs.Prelude.{◌≡◌, ℕ, ◌<◌, Bool, true, false, cond, List, [], ◌∷◌, Some, None, Option, refl}
+use Rattle.std.specs.Prelude.{◌≡◌, ℕ, ◌<◌, List, [], ◌∷◌, Some, None, Option, refl}
 use Rattle.std.proofs.Common.{sym, ap, subst, ◌∙◌, arith}
 use Rattle.std.proofs.lemmas.Bool.Decides.{nat_tests}
 use Rattle.std.specs.Option.{option_map}
@@ -7,14 +7,10 @@ use Rattle.traffic.specs.Arrivals.{Arrival, Steps, Taken, Lawful, demand, later}
 use Rattle.traffic.specs.Curves.{Numbers}
 use Rattle.traffic.specs.Laws.{TrafficLaws}
 
--- What an answer tells: a packet that was taken passed the test, and a mapped answer came from an answer.
-
-pub passed_test : {X : Type 0} (b : Bool) (x t : X) → cond b (Some x) None ≡ Some t → (b ≡ true) × (t ≡ x)
-passed_test true x t e = (refl, cc)
-passed_test false x t e = let z : ◌≡◌ {A = ℕ} 0 1 = cc in absurd (omega arith)
+-- A mapped answer came from an answer.
 
 mapped_from : {S W : Type 0} (i : S → W) (o : Option S) (x : W) → option_map i o ≡ Some x → (t : S) × (o ≡ Some t) × (i t ≡ x)
-mapped_from i None x e = let z : ◌≡◌ {A = ℕ} 0 1 = cc in absurd (omega arith)
+mapped_from i None x e = absurd (cc)
 mapped_from i (Some t) x e = (t, refl, cc)
 
 -- No packet is due before the allowance has passed.

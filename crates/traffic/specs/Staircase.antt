@@ -104,13 +104,6 @@ before_later f t h = cond-false (t == 0) 0 (f (t - 1)) (ne_eqb t 0 (λ e. omega 
 pub flat_no_rise : (f : ℕ → ℕ) (t : ℕ) → 0 < t → f t ≡ f (t - 1) → Rises f t → ⊥
 flat_no_rise f t h e r = omega (arith, before_later f t h)
 
-pub first_rise : (T C b d t : ℕ) → 1 ≤ C → 1 ≤ b → t < d → NextRise (staircase T C b d) t (Some d)
-first_rise T C b d t some deep h = (
-  h,
-  omega (arith, before_later (staircase T C b d) d (omega arith), staircase_before T C b d (d - 1) (omega arith), staircase_starts T C b d deep),
-  λ v l m. flat_no_rise (staircase T C b d) v (omega arith) (staircase_before T C b d v m ∙ sym (staircase_before T C b d (v - 1) (omega arith))),
-)
-
 pub later_rise : (T C b d t : ℕ) → 1 ≤ T → 1 ≤ C → d ≤ t → NextRise (staircase T C b d) t (Some (d + ((t - d) / T + 1) * T))
 later_rise T C b d t pos some h =
     let q : ℕ = (t - d) / T in

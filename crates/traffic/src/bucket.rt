@@ -3,7 +3,10 @@ ghost use Rattle.traffic.specs.Bucket.{bucket, bucket_limits, bucket_steps};
 ghost use Rattle.traffic.specs.Buckets.{bucket_shaped, bucket_redated, bucket_sound};
 ghost use Rattle.std.proofs.Common.{rules};
 
-use crate::{Curve, FRAME, Traffic};
+use crate::{Curve, FRAME, LONGEST_ALLOWANCE, Traffic};
+
+// The most packets that a bucket may hold.
+const DEEPEST: u32 = 8;
 
 #[derive(Clone, Copy)]
 pub struct Bucket {
@@ -29,12 +32,9 @@ impl Curve for Bucket {
     fn within(&self, p: u32) -> bool {
         1 <= self.period
             && FRAME % self.period == 0
-            && 1 <= self.longest
-            && self.longest <= p
-            && 1 <= self.depth
-            && self.depth <= 8
-            && self.longest <= self.allowance
-            && self.allowance <= 40320
+            && (1..=p).contains(&self.longest)
+            && (1..=DEEPEST).contains(&self.depth)
+            && (self.longest..=LONGEST_ALLOWANCE).contains(&self.allowance)
     }
 
     fn allowance(&self) -> u32 {
@@ -89,8 +89,8 @@ impl Traffic for Bucket {
     }
 
     fn step(&self, state: &mut u64, slot: u32, length: u32) -> bool {
-        let room = u64::from(slot) + u64::from((self.depth - 1) * self.period);
-        if length < 1 || self.longest < length || room < *state {
+        let room = u64::from(slot) + u64::from(self.depth - 1) * u64::from(self.period);
+        if !(1..=self.longest).contains(&length) || room < *state {
             return false;
         }
         *state = (*state).max(u64::from(slot)) + u64::from(self.period);

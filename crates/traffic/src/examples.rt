@@ -8,6 +8,7 @@ use crate::mixture::Mixture;
 use crate::spaced::Spaced;
 
 // The worked lists of packets are as told: lawful, asking for so much of what the curve allows, or refused.
+#[tactic(auto, using(crate::proofs::Worked::worked))]
 pub fn examples_stand()
     ensures { Examples }
 {}

@@ -14,6 +14,9 @@ pub mod spaced;
 // A frame: 5,040 slots, which every period allowed divides.
 pub const FRAME: u32 = 5040;
 
+// The longest allowance that a channel may declare.
+pub const LONGEST_ALLOWANCE: u32 = 8 * FRAME;
+
 // A channel as the grant rule sees it: its numbers and its demand bound function.
 pub trait Curve: Copy {
     ghost numbers: { Self → Numbers };

@@ -1,15 +1,31 @@
 // Spaced traffic: packets at least a period apart.
 ghost use Rattle.traffic.specs.Spaced.{spaced, spaced_limits, spaced_steps};
 ghost use Rattle.traffic.specs.Spacing.{spaced_shaped, spaced_redated, spaced_sound};
+ghost use Rattle.std.specs.Prelude.{◌≡◌};
 ghost use Rattle.std.proofs.Common.{rules};
 
-use crate::{Curve, FRAME, Traffic};
+use crate::bucket::Bucket;
+use crate::{Curve, Traffic};
 
 #[derive(Clone, Copy)]
 pub struct Spaced {
     pub period: u32,
     pub longest: u32,
     pub allowance: u32,
+}
+
+impl Spaced {
+    // The bucket of depth 1, which has the same limits and the same curve.
+    fn as_bucket(&self) -> Bucket
+        ensures { result ≡ record { period = self.now.period; longest = self.now.longest; depth = 1; allowance = self.now.allowance } }
+    {
+        Bucket {
+            period: self.period,
+            longest: self.longest,
+            depth: 1,
+            allowance: self.allowance,
+        }
+    }
 }
 
 impl Curve for Spaced {
@@ -26,12 +42,7 @@ impl Curve for Spaced {
     ghost redatable = { Prim.search rules };
 
     fn within(&self, p: u32) -> bool {
-        1 <= self.period
-            && FRAME % self.period == 0
-            && 1 <= self.longest
-            && self.longest <= p
-            && self.longest <= self.allowance
-            && self.allowance <= 40320
+        self.as_bucket().within(p)
     }
 
     fn allowance(&self) -> u32 {
@@ -43,26 +54,19 @@ impl Curve for Spaced {
     }
 
     fn work(&self) -> u32 {
-        self.longest * FRAME / self.period
+        self.as_bucket().work()
     }
 
     fn burst(&self) -> u32 {
-        self.longest
+        self.as_bucket().burst()
     }
 
     fn curve(&self, t: u32) -> u64 {
-        if t < self.allowance {
-            return 0;
-        }
-        u64::from(self.longest) * (u64::from((t - self.allowance) / self.period) + 1)
+        self.as_bucket().curve(t)
     }
 
     fn next_rise(&self, t: u32) -> Option<u64> {
-        if t < self.allowance {
-            return Some(u64::from(self.allowance));
-        }
-        let steps = u64::from((t - self.allowance) / self.period);
-        Some(u64::from(self.allowance) + (steps + 1) * u64::from(self.period))
+        self.as_bucket().next_rise(t)
     }
 
     fn with_allowance(self, allowance: u32) -> Spaced {
@@ -89,7 +93,7 @@ impl Traffic for Spaced {
             None => 0,
             Some(last) => u64::from(last) + u64::from(self.period),
         };
-        if length < 1 || self.longest < length || u64::from(slot) < ready {
+        if !(1..=self.longest).contains(&length) || u64::from(slot) < ready {
             return false;
         }
         *state = Some(slot);

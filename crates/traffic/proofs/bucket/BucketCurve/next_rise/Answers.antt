@@ -1,10 +1,5 @@
-use Rattle.traffic.specs.Buckets.{bucket_first_rise, bucket_later_rise}
+use Rattle.traffic.specs.Buckets.{bucket_later_rise}
 use Rattle.traffic.proofs.bucket.BucketCurve.next_rise.Goals as goal
-
-pub returns-then-t-self : goal.returns-then-t-self
-returns-then-t-self c =
-    let k = c.args.self.now in
-    bucket_first_rise k.period k.longest k.depth k.allowance c.requires.under c.args.t _ c.requires.holds c.if-t-self.true (cc)
 
 pub returns : goal.returns
 returns c =
