@@ -1,8 +1,8 @@
 -- The places of a table with marks, one by one.
-use Rattle.std.proofs.Common.{◌≡◌, ℕ, zero, suc, ◌+◌, ◌<◌, ◌≤◌, Bool, true, false, cond, List, [], ◌∷◌, ◌++◌, length, get_or, take, Some, None, Option, refl, ap, ◌∙◌, arith, length-append}
+use Rattle.std.proofs.Common.{◌≡◌, ℕ, zero, suc, ◌+◌, ◌<◌, ◌≤◌, Bool, true, false, cond, List, [], ◌∷◌, ◌++◌, length, get_or, take, replicate, Some, None, Option, refl, ap, ◌∙◌, arith, length-append}
 use Rattle.std.proofs.lemmas.List.{take_more}
 use Rattle.traffic.specs.declared.Row.{Row}
-use Rattle.verdict.specs.Members.{marked, present}
+use Rattle.verdict.specs.Members.{marked, present, kinds}
 
 -- past the end of the marks there is none
 pub no_mark : (bs : List Bool) (i : ℕ) → length bs ≤ i → get_or bs i false ≡ false
@@ -60,6 +60,13 @@ present_push [] None = refl
 present_push [] (Some k) = refl
 present_push (None ∷ os) o = present_push os o
 present_push (Some k ∷ os) o = ap (λ ks. k ∷ ks) (present_push os o)
+
+-- where the first n rows are marked, they count
+pub marked_all : {K S : Type 0} (rs : List (Row K S)) (n : ℕ) → present (marked rs (replicate n true)) ≡ kinds (take n rs)
+marked_all [] zero = refl
+marked_all [] (suc n) = refl
+marked_all (r ∷ rs) zero = marked_all rs zero
+marked_all (r ∷ rs) (suc n) = ap (λ ks. r.kind ∷ ks) (marked_all rs n)
 
 -- the channels of one place more
 pub present_more : {K : Type 0} (os : List (Option K)) (i : ℕ) → i < length os → present (take (i + 1) os) ≡ present (take i os) ++ one (get_or os i None)

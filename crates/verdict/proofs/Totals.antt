@@ -1,5 +1,5 @@
 -- Sums, the largest and what holds of all, over the channels at the first places, with one place more.
-use Rattle.std.proofs.Common.{◌≡◌, ℕ, zero, suc, ◌+◌, ◌<◌, ◌≤◌, max, Bool, true, List, [], ◌∷◌, ◌++◌, length, get_or, take, Some, None, Option, sym, refl, ap, ◌∙◌, subst, arith, take_all}
+use Rattle.std.proofs.Common.{◌≡◌, ℕ, zero, suc, ◌+◌, ◌<◌, ◌≤◌, max, Bool, true, List, [], ◌∷◌, ◌++◌, length, get_or, take, Some, None, Option, sym, refl, ap, ◌∙◌, subst, arith, append-nil, take_all}
 use Rattle.std.specs.List.{AllByRecursion}
 use Rattle.traffic.specs.Curves.{Numbers}
 use Rattle.traffic.specs.Laws.{Within, CurveLaws}
@@ -15,10 +15,6 @@ module _ {K : Type 0} (os : List (Option K)) (i : ℕ) (inside : i < length os) 
 
   pub none_more : None ≡ get_or os i None → present (take (i + 1) os) ≡ present (take i os)
   none_more is = present_more os i inside ∙ ap (λ o. present (take i os) ++ one o) (sym is) ∙ append-nil (present (take i os))
-    where
-      append-nil : {X : Type 0} (xs : List X) → xs ++ [] ≡ xs
-      append-nil [] = refl
-      append-nil (x ∷ xs) = ap (λ ys. x ∷ ys) (append-nil xs)
 
 pub present_all : {K : Type 0} (os : List (Option K)) (i : ℕ) → length os ≤ i → present (take i os) ≡ present os
 present_all os i all = ap present (take_all i os all)

@@ -1,5 +1,5 @@
 -- The channels to judge: the counted rows of a table, and one more or none.
-use Rattle.std.specs.Prelude.{ℕ, Bool, cond, List, [], ◌∷◌, ◌++◌, length, Some, None, Option}
+use Rattle.std.specs.Prelude.{ℕ, Bool, cond, List, [], ◌∷◌, ◌++◌, length, map, Some, None, Option}
 use Rattle.traffic.specs.declared.Row.{Row}
 use Rattle.verdict.specs.declared.channels.Channels.{Channels}
 
@@ -12,6 +12,10 @@ marked (r ∷ rs) (b ∷ bs) = cond b (Some r.kind) None ∷ marked rs bs
 -- a place for each row, and one more
 abbrev pub places : {K S : Type 0} → Channels K S → List (Option K)
 places c = marked c.rows.now c.counted.now ++ c.more ∷ []
+
+-- the channels of rows that all count
+abbrev pub kinds : {K S : Type 0} → List (Row K S) → List K
+kinds rs = map (λ r. r.kind) rs
 
 abbrev pub present : {K : Type 0} → List (Option K) → List K
 present [] = []

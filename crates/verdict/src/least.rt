@@ -14,18 +14,6 @@ use traffic::Curve;
 const MOST: u32 = 40320;
 
 impl<'a, K: Curve, S: Copy> Channels<'a, K, S> {
-    // The counted rows and this channel.
-    pub fn with(&self, kind: K) -> Channels<'a, K, S>
-        ensures members { members result ≡ rows_counted self.now ++ kind ∷ [] }
-        ensures size { size result ≡ size self.now }
-    {
-        Channels {
-            rows: self.rows,
-            counted: self.counted,
-            more: Some(kind),
-        }
-    }
-
     // The first failing point of channels whose works fit, if there is one.
     fn probe(&self, longest: u32) -> Option<u32>
         requires judged { Judgeable K.Curve.limits longest (size self.now) (members self.now) }

@@ -12,48 +12,11 @@ use verdict::{Unfit, Verdict};
 
 type Kind = Mixture<Spaced, Bucket>;
 
-const COUNTED: [bool; 32] = [true; 32];
-
-fn spaced(period: u32, longest: u32, allowance: u32) -> Kind {
-    Mixture::First(Spaced {
-        period,
-        longest,
-        allowance,
-    })
-}
-
 fn row(period: u32, longest: u32, allowance: u32) -> Row<Kind, ()> {
     Row {
-        kind: spaced(period, longest, allowance),
+        kind: Kind::spaced(period, longest, allowance),
         state: (),
     }
-}
-
-fn judged(rows: &[Row<Kind, ()>], more: Option<Kind>, longest: u32) -> Verdict {
-    let channels = Channels {
-        rows,
-        counted: &COUNTED,
-        more,
-    };
-    channels.judge(longest)
-}
-
-fn least_beside(rows: &[Row<Kind, ()>], new: Kind, longest: u32) -> Result<(u32, u32), Unfit> {
-    let channels = Channels {
-        rows,
-        counted: &COUNTED,
-        more: None,
-    };
-    channels.least(new, longest)
-}
-
-fn stretch_of(rows: &[Row<Kind, ()>], longest: u32) -> Result<u64, Unfit> {
-    let channels = Channels {
-        rows,
-        counted: &COUNTED,
-        more: None,
-    };
-    channels.stretch(longest)
 }
 
 fn print_unfit(rt: &HostRuntime, name: &str, unfit: Unfit) -> io::Result<()> {
@@ -81,35 +44,33 @@ fn print_least(rt: &HostRuntime, name: &str, found: Result<(u32, u32), Unfit>) -
 // The channels of the worked figures, under packets of up to 4 slots.
 fn figures(rt: &HostRuntime) -> io::Result<()> {
     let rows = [row(10, 2, 5), row(8, 4, 9), row(12, 3, 18)];
-    let bucket = Mixture::Second(Bucket {
-        period: 10,
-        longest: 2,
-        depth: 3,
-        allowance: 1,
-    });
+    let none = Channels::all(&rows[..0]);
+    let one = Channels::all(&rows[..1]);
+    let two = Channels::all(&rows[..2]);
+    let three = Channels::all(&rows);
+    print_least(rt, "spaced 10 2", none.least(Kind::spaced(10, 2, 0), 4))?;
     print_least(
         rt,
-        "spaced 10 2",
-        least_beside(&rows[0..0], spaced(10, 2, 0), 4),
+        "bucket 10 2 3",
+        none.least(Kind::bucket(10, 2, 3, 1), 4),
     )?;
-    print_least(rt, "bucket 10 2 3", least_beside(&rows[0..0], bucket, 4))?;
     print_least(
         rt,
         "spaced 8 4 beside one",
-        least_beside(&rows[0..1], spaced(8, 4, 0), 4),
+        one.least(Kind::spaced(8, 4, 0), 4),
     )?;
     print_least(
         rt,
         "spaced 12 3 beside two",
-        least_beside(&rows[0..2], spaced(12, 3, 0), 4),
+        two.least(Kind::spaced(12, 3, 0), 4),
     )?;
     print_verdict(
         rt,
         "one slot sooner",
-        judged(&rows[0..2], Some(spaced(12, 3, 17)), 4),
+        two.with(Kind::spaced(12, 3, 17)).judge(4),
     )?;
-    print_verdict(rt, "all three", judged(&rows, None, 4))?;
-    match stretch_of(&rows, 4) {
+    print_verdict(rt, "all three", three.judge(4))?;
+    match three.stretch(4) {
         Ok(slots) => println!(rt; "stretch {slots}"),
         Err(unfit) => print_unfit(rt, "stretch", unfit),
     }
@@ -141,10 +102,11 @@ fn cover(heap: Global) -> io::Result<Vec<Row<Kind, ()>>> {
 fn main(rt: HostRuntime) -> io::Result<()> {
     figures(&rt)?;
     let rows = cover(rt.alloc())?;
+    let all = Channels::all(&rows);
     print_verdict(
         &rt,
         "33 channels",
-        judged(&rows, Some(spaced(5040, 1, 40320)), 1),
+        all.with(Kind::spaced(5040, 1, 40320)).judge(1),
     )?;
-    print_least(&rt, "beside 32", least_beside(&rows, spaced(5040, 1, 0), 1))
+    print_least(&rt, "beside 32", all.least(Kind::spaced(5040, 1, 0), 1))
 }

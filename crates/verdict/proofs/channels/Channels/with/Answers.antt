@@ -6,5 +6,6 @@ use Rattle.verdict.proofs.channels.Channels.with.Goals as goal
 pub returns : goal.returns
 returns g c = record {
   members = present_push (marked c.args.self.now.rows.now c.args.self.now.counted.now) (Some c.args.kind);
+  rows = refl;
   size = refl;
 }
