@@ -2,6 +2,7 @@
 use Rattle.std.proofs.Common.{◌≡◌, ℕ, ◌+◌, ◌-◌, ◌<◌, ◌≤◌, Bool, true, false, cond, ◌&&◌, leb, List, ◌∷◌, refl, inl, inr, arith}
 use Rattle.std.specs.List.{AllByRecursion}
 use Rattle.std.specs.List.Sorted.{IsPermutation}
+use Rattle.std.proofs.lemmas.Bool.Decides.{nat_tests}
 use Rattle.std.proofs.lemmas.Bool.{cases_Bool, le-leb, both_ways, cond-true, cond-false}
 use Rattle.std.proofs.ByRecursion.{All-weaker, all_shuffled}
 use Rattle.verdict.specs.Demand.{total}
@@ -44,18 +45,10 @@ asked X a m = weigh (asks X a) m
 -- As slots pass less is left.
 
 rest_falls : (X : Job → Bool) (s t : ℕ) (l : List Begun) → s ≤ t → rest X t l ≤ rest X s l
-rest_falls X s t l h = Sums.total-le _ _ l (Sums.all_true _ (λ x. go (X x.job) x) l)
-  where
-    go : (b : Bool) (x : Begun) → cond b (end x - t) 0 ≤ cond b (end x - s) 0
-    go true x = omega arith
-    go false x = omega arith
+rest_falls X s t l h = Sums.total-le _ _ l (Sums.all_true (λ x. cond (X x.job) (end x - t) 0 ≤ cond (X x.job) (end x - s) 0) (λ x. grind (arith, nat_tests)) l)
 
 pub rest_left : (X : Job → Bool) (s : ℕ) (l : List Begun) → rest X s l ≤ left s l
-rest_left X s l = Sums.total-le _ _ l (Sums.all_true _ (λ x. go (X x.job) x) l)
-  where
-    go : (b : Bool) (x : Begun) → cond b (end x - s) 0 ≤ end x - s
-    go true x = omega arith
-    go false x = omega arith
+rest_left X s l = Sums.total-le _ _ l (Sums.all_true (λ x. cond (X x.job) (end x - s) 0 ≤ end x - s) (λ x. grind (arith, nat_tests)) l)
 
 pub unsent_ahead : (X : Job → Bool) (m : State) → unsent X m ≤ ahead X m
 unsent_ahead X m = omega (arith, rest_left X m.clock m.log)
@@ -73,7 +66,7 @@ unsent_within X Y f m =
     )
   where
     go : (j : Job) (n : ℕ) → cond (X j) n 0 ≤ cond (Y j) n 0
-    go j n = elim (cases_Bool (X j)) [ inl y ↦ omega (arith, cond-true (Y j) n 0 (f j y), cond-true (X j) n 0 y) | inr z ↦ omega (arith, cond-false (X j) n 0 z) ]
+    go j n = let both = f j in grind (arith, nat_tests)
 
 -- What a slot does.
 

@@ -1,7 +1,8 @@
 -- What a row of a link has offered: as steps take it packet by packet, its jobs stay offers of its channel.
-use Rattle.std.proofs.Common.{◌≡◌, ℕ, ◌+◌, ◌≤◌, List, [], ◌∷◌, ◌++◌, map, Some, Option, refl, ap, arith}
+use Rattle.std.proofs.Common.{◌≡◌, ℕ, ◌+◌, ◌≤◌, List, [], ◌∷◌, ◌++◌, map, Some, Option, refl, arith}
 use Rattle.std.specs.List.{AllByRecursion}
 use Rattle.std.proofs.ByRecursion.{All-push}
+use Rattle.std.proofs.lemmas.List.{map_push}
 use Rattle.traffic.specs.Arrivals.{Arrival, Steps, Taken}
 use Rattle.traffic.specs.Curves.{Numbers}
 use Rattle.verdict.specs.Demand.{total}
@@ -26,10 +27,6 @@ module _ {S : Type 0} (step : S → ℕ → ℕ → Option S) where
   leads_on : (s : S) (a : ℕ) (ps : List Arrival) (t : S) (p : Arrival) (u : S) → step t p.slot p.len ≡ Some u → Leads step s a ps t p.slot → Leads step s a (ps ++ p ∷ []) u p.slot
   leads_on s a [] t p u e h = (u, h.1, rw h.0 e, (refl, omega arith))
   leads_on s a (x ∷ ps) t p u e (v, l, d, h) = (v, l, d, leads_on v x.slot ps t p u e h)
-
-map_push : {X Y : Type 0} (f : X → Y) (xs : List X) (x : X) → map f (xs ++ x ∷ []) ≡ map f xs ++ f x ∷ []
-map_push f [] x = refl
-map_push f (y ∷ xs) x = ap (λ ys. f y ∷ ys) (map_push f xs x)
 
 -- the row's state is now, and its jobs came up to slot s
 pub record Row {S : Type 0} (n : Numbers) (m : Steps S) (now : S) (s : ℕ) (js : List Job) : Type 0 where

@@ -1,14 +1,11 @@
 -- Jobs in time: what has begun ends by its due slot, and what waits still can.
-use Rattle.std.proofs.Common.{◌≡◌, ℕ, ◌+◌, ◌<◌, ◌≤◌, Bool, true, cond, leb, ◌⊎◌, List, refl, inl, inr, arith}
+use Rattle.std.proofs.Common.{◌≡◌, ℕ, ◌+◌, ◌≤◌, Bool, true, ◌⊎◌, List, refl, inl, inr, arith}
 use Rattle.std.specs.List.{AllByRecursion}
 use Rattle.std.proofs.ByRecursion.{All-weaker, all_shuffled}
-use Rattle.std.proofs.lemmas.Bool.{cases_lt, cases_Bool, cond-true, cond-false, le-leb, leb-true}
-use Rattle.verdict.specs.Demand.{total}
+use Rattle.std.proofs.lemmas.Bool.{cases_lt, le-leb, leb-true}
 use Rattle.schedule.specs.Core.{State, Arrives, arrives, Tick, goes_on, begins, idles}
 use Rattle.schedule.specs.Jobs.{Due, never, at, Job, until, due_by}
 use Rattle.schedule.specs.Schedules.{Begun, end, Overdue, Late}
-use Rattle.schedule.proofs.Counts.{weigh}
-use Rattle.schedule.proofs.Logs.{Sound, waiting_positive}
 use Rattle.schedule.proofs.Sums
 
 -- whatever slot it is due by, it has ended by it
@@ -19,7 +16,7 @@ timely_or_overdue : (x : Begun) → Timely x ⊎ Overdue x
 timely_or_overdue x = go x.job.due refl
   where
     go : (u : Due) → x.job.due ≡ u → Timely x ⊎ Overdue x
-    go never e = inl (λ d h. let z : ◌≡◌ {A = ℕ} 0 1 = cc in absurd (omega arith))
+    go never e = inl (λ d h. absurd (cc))
     go (at n) e = elim (cases_lt n (end x)) [
       | inl l ↦ inr (n, e, l)
       | inr g ↦ inl (λ d h. let u : until d (at n) ≡ true = rw e at h in omega (arith, leb-true n d u))
@@ -44,26 +41,3 @@ pub timely_tick : {before : Job → Job → Bool} {m n : State} → Tick before 
 timely_tick (goes_on h) w t = t
 timely_tick (begins {s} j ended h least) w t = ((all_shuffled (λ j. (d : ℕ) → due_by d j ≡ true → s + j.slots ≤ d) _ _ h w).0, t)
 timely_tick (idles h) w t = t
-
--- By any slot d that has come, the jobs due by d have ended by d, however they are weighed.
-
-none_due : (d : ℕ) (f : Job → ℕ) (j : Job) (s : ℕ) → d ≤ s → 0 < j.slots → (due_by d j ≡ true → s + j.slots ≤ d) → cond (due_by d j) (f j) 0 ≡ 0
-none_due d f j s l p h = elim (cases_Bool (due_by d j)) [ inl y ↦ absurd (omega (arith, h y)) | inr n ↦ cond-false (due_by d j) (f j) 0 n ]
-
-due_ended : (d : ℕ) (f : Job → ℕ) (x : Begun) → Timely x → cond (due_by d x.job) (f x.job) 0 ≤ cond (leb (end x) d) (f x.job) 0
-due_ended d f x h = elim (cases_Bool (due_by d x.job)) [
-  | inl y ↦ omega (arith, cond-true (leb (end x) d) (f x.job) 0 (le-leb (end x) d (h d y)), cond-true (due_by d x.job) (f x.job) 0 y)
-  | inr n ↦ omega (arith, cond-false (due_by d x.job) (f x.job) 0 n)
-]
-
-pub due_have_ended : (m : State) → Sound m → WaitingInTime m → AllByRecursion Timely m.log → (f : Job → ℕ) (d : ℕ) → d ≤ m.clock →
-    weigh (λ j. cond (due_by d j) (f j) 0) m ≤ total (λ x. cond (leb (end x) d) (f x.job) 0) m.log
-due_have_ended m i w t f d l =
-    let none = Sums.total-none (λ j. cond (due_by d j) (f j) 0) m.waiting
-    (Sums.all_zip _ _ _ (λ j a b. none_due d f j m.clock l a (b d)) m.waiting (waiting_positive m i) w) in
-    omega (
-      arith,
-      none,
-      Sums.total-map (λ x. x.job) (λ j. cond (due_by d j) (f j) 0) m.log,
-      Sums.total-le _ _ m.log (All-weaker Timely (λ x. cond (due_by d x.job) (f x.job) 0 ≤ cond (leb (end x) d) (f x.job) 0) (λ x. due_ended d f x) m.log t),
-    )

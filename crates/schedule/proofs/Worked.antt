@@ -1,7 +1,7 @@
 -- The worked link.
-use Rattle.std.proofs.Common.{◌≡◌, ℕ, ◌+◌, ◌-◌, ◌*◌, ◌/◌, ltb, List, [], ◌∷◌, Some, refl, inl, inr, arith}
+use Rattle.std.proofs.Common.{◌≡◌, ℕ, List, [], ◌∷◌, Some, refl, inl, inr, arith}
 use Rattle.std.proofs.lemmas.List.Sorted.{IsPermutation-swap}
-use Rattle.std.proofs.lemmas.Bool.{cases_lt, lt-ltb, le-ltb, cond-true, cond-false}
+use Rattle.std.proofs.lemmas.Bool.Decides.{nat_tests}
 use Rattle.verdict.specs.Demand.{curves, blocking}
 use Rattle.verdict.specs.Points.{Fits}
 use Rattle.schedule.specs.Arrivals.{Offers, Arrivals}
@@ -10,10 +10,7 @@ use Rattle.schedule.specs.Schedules.{Begun, Unidling, Proper, Late}
 use Rattle.schedule.proofs.Necessity.{too_late}
 
 fits_at_5 : (t : ℕ) → Fits (blocking 4) (curves numbers (5 ∷ [])) t
-fits_at_5 t some = elim (cases_lt t 5) [
-  | inl l ↦ absurd (omega (arith, cond-true (ltb t 5) 0 (2 * ((t - 5) / 10 + 1)) (lt-ltb t 5 l)))
-  | inr g ↦ omega (arith, cond-false (ltb t 5) 0 (2 * ((t - 5) / 10 + 1)) (le-ltb t 5 g))
-]
+fits_at_5 t some = grind (arith, nat_tests)
 
 abbrev offers : (d : ℕ) → Offers numbers steps (d ∷ [])
 offers d = (read d ∷ [], record { lawful = (Some 1, omega arith, refl, tt); due = (refl, tt) }, tt)
@@ -28,7 +25,7 @@ unidling s free (inr (inr z)) = absurd z
 
 timely : Late (schedule 5) → ⊥
 timely (inl (d, e, l)) = let six : 6 ≡ d = cc in omega arith
-timely (inr (inl (d, e, l))) = let z : ◌≡◌ {A = ℕ} 0 1 = cc in omega arith
+timely (inr (inl (d, e, l))) = cc
 timely (inr (inr z)) = z
 
 defeating : (xs : List Begun) → Proper (bulk ∷ read 4 ∷ []) xs → Late xs

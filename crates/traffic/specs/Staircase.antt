@@ -1,15 +1,12 @@
 -- The staircase: 0 before d, C * b at d, and C more every T slots.
 use Rattle.std.specs.Prelude.{◌≡◌, ℕ, ◌+◌, ◌-◌, ◌*◌, ◌/◌, ◌%◌, ◌<◌, ◌≤◌, Some, ◌==◌, nat_lt}
-use Rattle.std.proofs.Common.{sym, ap, ◌∙◌, ⊎_elim, mod-eq_of_lt, div-add-mod', mul-add, add-mul, mul-le-mul, mul-le-mul_left, mul_comm, mul_assoc, div-mul-le_self, div-le_self, mul-div_cancel, le_refl, arith}
+use Rattle.std.proofs.Common.{sym, ap, ◌∙◌, ⊎_elim, div-add-mod', mul-add, add-mul, mul-le-mul, mul-le-mul_left, mul_comm, mul_assoc, div-mul-le_self, div-le_self, mul-div_cancel, le_refl, arith}
 use Rattle.std.proofs.Math.Nat.{add-mul-div_left, div-eq_of_eq-mul_left, div-eq-sub-div, div-eq_of_lt, div-eq_of_lt-le, lt-div-mul-add}
 use Rattle.std.proofs.lemmas.Bool.{cases_lt, cond-true, cond-false, lt-ltb, le-ltb, ne_eqb}
 use Rattle.std.proofs.lemmas.Nat.{le-div}
 use Rattle.traffic.specs.Curves.{before, Rises, NextRise, staircase}
 
--- A period that divides the frame: it is no longer, it goes into it a whole number of times, and so the work is C for each time.
-
-pub period_most : (T : ℕ) → 5040 % T ≡ 0 → T ≤ 5040
-period_most T e = ⊎_elim (λ lt. omega (arith, mod-eq_of_lt lt)) (λ le. le) (cases_lt 5040 T)
+-- A period that divides the frame: it goes into it a whole number of times, and so the work is C for each time.
 
 frame_periods : (T : ℕ) → 5040 % T ≡ 0 → 5040 / T * T ≡ 5040
 frame_periods T e = omega (arith, div-add-mod' 5040 T)
