@@ -3,7 +3,8 @@ use Rattle.std.proofs.Common.{◌≡◌, ℕ, ◌<◌, Bool, true, false, cond, 
 use Rattle.std.specs.List.{AllByRecursion}
 use Rattle.std.specs.List.Sorted.{IsPermutation}
 use Rattle.std.specs.Cmp.{IsStrictWeakOrder}
-use Rattle.std.proofs.lemmas.Bool.{cases_Bool, cond-true, cond-false, eqb-true, eq-eqb, and_parts, and_from}
+use Rattle.std.proofs.lemmas.Bool.Decides.{nat_tests}
+use Rattle.std.proofs.lemmas.Bool.{cases_Bool, cond-true, cond-false, eqb-true, eq-eqb}
 use Rattle.std.proofs.ByRecursion.{All-weaker}
 use Rattle.std.proofs.lemmas.List.Sorted.{IsPermutation-refl, IsPermutation-cons, IsPermutation-trans, IsPermutation-sym, IsPermutation-swap}
 use Rattle.verdict.specs.Demand.{total}
@@ -60,9 +61,7 @@ same_job j k =
 
 pub refl_job : (j : Job) → same_job j j ≡ true
 unfolding same_job
-refl_job j =
-    let same : (n : ℕ) → eqb n n ≡ true = λ n. eq-eqb n n refl in
-    and_from _ _ (same j.arrival) (and_from _ _ (same j.slots) (and_from _ _ (refl_due j.due) (and_from _ _ (same j.owner) (and_from _ _ (same j.mat) (same j.count)))))
+refl_job j = let due = refl_due j.due in grind (arith, nat_tests)
 
 make : ℕ → ℕ → Due → ℕ → ℕ → ℕ → Job
 make a s d o m c = record { arrival = a; slots = s; due = d; owner = o; mat = m; count = c }
@@ -70,17 +69,12 @@ make a s d o m c = record { arrival = a; slots = s; due = d; owner = o; mat = m;
 pub from_job : (j k : Job) → same_job j k ≡ true → j ≡ k
 unfolding make same_job
 from_job j k h =
-    let (a, h₁) = and_parts (eqb j.arrival k.arrival) _ h in
-    let (s, h₂) = and_parts (eqb j.slots k.slots) _ h₁ in
-    let (d, h₃) = and_parts (same_due j.due k.due) _ h₂ in
-    let (o, h₄) = and_parts (eqb j.owner k.owner) _ h₃ in
-    let (m, c) = and_parts (eqb j.mat k.mat) _ h₄ in
-    let a' = eqb-true j.arrival k.arrival a in
-    let s' = eqb-true j.slots k.slots s in
-    let d' = from_due j.due k.due d in
-    let o' = eqb-true j.owner k.owner o in
-    let m' = eqb-true j.mat k.mat m in
-    let c' = eqb-true j.count k.count c in
+    let a : j.arrival ≡ k.arrival = grind (arith, nat_tests) in
+    let s : j.slots ≡ k.slots = grind (arith, nat_tests) in
+    let d : j.due ≡ k.due = from_due j.due k.due (grind (arith, nat_tests)) in
+    let o : j.owner ≡ k.owner = grind (arith, nat_tests) in
+    let m : j.mat ≡ k.mat = grind (arith, nat_tests) in
+    let c : j.count ≡ k.count = grind (arith, nat_tests) in
     let e : make j.arrival j.slots j.due j.owner j.mat j.count ≡ make k.arrival k.slots k.due k.owner k.mat k.count = cc in e
 
 pub same_jobs : (xs ys : List Job) → ((f : Job → ℕ) → total f xs ≡ total f ys) → IsPermutation xs ys

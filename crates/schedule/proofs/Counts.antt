@@ -3,7 +3,7 @@ use Rattle.std.proofs.Common.{◌≡◌, ℕ, ◌+◌, ◌-◌, ◌<◌, ◌≤�
 use Rattle.std.specs.List.{AllByRecursion}
 use Rattle.std.specs.List.Sorted.{IsPermutation}
 use Rattle.std.proofs.lemmas.Bool.Decides.{nat_tests}
-use Rattle.std.proofs.lemmas.Bool.{cases_Bool, le-leb, both_ways, cond-true, cond-false}
+use Rattle.std.proofs.lemmas.Bool.{cases_Bool, le-leb, cond-true, cond-false}
 use Rattle.std.proofs.ByRecursion.{All-weaker, all_shuffled}
 use Rattle.verdict.specs.Demand.{total}
 use Rattle.schedule.specs.Core.{State, Arrives, arrives, Tick, goes_on, begins, idles}
@@ -87,10 +87,7 @@ pub record Advance (X : Job → Bool) (m n : State) : Type 0 where
 
 module _ (before : Job → Job → Bool) (X : Job → Bool) (closed : Closed before X) where
   none_waits : (j : Job) (w : List Job) → X j ≡ false → AllByRecursion (λ k. before k j ≡ false) w → waits X w ≡ 0
-  none_waits j w n h = Sums.total-none _ w (All-weaker _ _ (λ k b. elim (cases_Bool (X k)) [
-    | inl y ↦ absurd (both_ways (X j) n (closed k j y b))
-    | inr m ↦ cond-false (X k) k.slots 0 m
-  ]) w h)
+  none_waits j w n h = Sums.total-none _ w (All-weaker _ (λ k. cond (X k) k.slots 0 ≡ 0) (λ k b. let member : X k ≡ true → X j ≡ true = λ y. closed k j y b in grind (arith, nat_tests)) w h)
 
   pub advance : {m n : State} → Tick before m n → AllByRecursion (λ j. 0 < j.slots) m.waiting → Advance X m n
   advance (goes_on {s} {w} {l} h) pos = record {

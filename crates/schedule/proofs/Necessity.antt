@@ -2,6 +2,7 @@
 use Rattle.std.proofs.Common.{◌≡◌, ℕ, ◌+◌, ◌-◌, ◌<◌, ◌≤◌, min, Bool, true, false, cond, List, ◌∷◌, sym, refl, ◌∙◌, inl, inr, add-zero, arith}
 use Rattle.std.specs.List.{AllByRecursion}
 use Rattle.std.proofs.ByRecursion.{All-weaker, all_shuffled}
+use Rattle.std.proofs.lemmas.Bool.Decides.{nat_tests}
 use Rattle.verdict.specs.Demand.{total}
 use Rattle.schedule.specs.Jobs.{Job, due_by}
 use Rattle.schedule.specs.Schedules.{Begun, end, Any, Waits, Proper, Late}
@@ -22,8 +23,7 @@ module _ (first : Job) (t : ℕ) (js : List Job) (alone : first.arrival ≡ 0) (
   Opens j = j.arrival ≡ 0 → (j.slots ≡ first.slots) × (due_by (1 + t) j ≡ false)
 
   room_taken : (x : Begun) (b : Bool) → (b ≡ true → end x ≤ 1 + t) → cond b x.job.slots 0 ≤ below (1 + t) x
-  room_taken x true h = omega (arith, h refl)
-  room_taken x false h = omega arith
+  room_taken x b h = grind (arith, nat_tests)
 
   pub too_late : (xs : List Begun) → Proper (first ∷ js) xs → Late xs
   too_late xs ok = elim (timely_or_late xs) [ inr l ↦ l | inl good ↦ absurd (crowded good) ]

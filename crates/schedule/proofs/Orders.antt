@@ -1,7 +1,6 @@
 -- Earliest deadline first is a ranking, and the jobs due by a slot are a down-set of it.
 use Rattle.std.proofs.Common.{◌≡◌, ℕ, Bool, true, false, ◌&&◌, ◌||◌, eqb, ltb, refl, arith}
 use Rattle.std.specs.Cmp.{IsStrictWeakOrder}
-use Rattle.std.proofs.lemmas.Bool.{le-leb, leb-true, ltb-false, or_parts}
 use Rattle.std.proofs.lemmas.Bool.Decides.{nat_tests}
 use Rattle.schedule.specs.Jobs.{Due, never, at, until, due_by, some_day, timed}
 use Rattle.schedule.specs.Orders.{sooner, same_due, earliest, DownSet}
@@ -34,7 +33,7 @@ earliest_ranks = record {
 until_closed : (d : ℕ) (x y : Due) (b : Bool) → until d x ≡ true → (sooner x y || b) ≡ false → until d y ≡ true
 until_closed d never y b h k = cc
 until_closed d (at e) never b h k = cc
-until_closed d (at e) (at f) b h k = le-leb f d (omega (arith, leb-true e d h, ltb-false e f (or_parts (ltb e f) b k).0))
+until_closed d (at e) (at f) b h k = grind (arith, nat_tests)
 
 pub until_some_day : (d : ℕ) (x : Due) → until d x ≡ true → some_day x ≡ true
 until_some_day d never h = h
