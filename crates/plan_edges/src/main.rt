@@ -36,19 +36,15 @@ fn show(rt: &HostRuntime, name: &str, text: &[u8]) -> io::Result<()> {
     }
 }
 
-// The bytes that a text of the input stands for.
+// The bytes that a text of the input stands for. A backslash at its end stands for itself.
 fn unescaped(heap: Global, shown: &str) -> Result<Vec<u8>, AllocError> {
     let mut text = Vec::new(heap);
-    let mut escaped = false;
-    for b in shown.bytes() {
-        if escaped {
-            text.push(byte_after_backslash(b))?;
-            escaped = false;
-        } else if b == b'\\' {
-            escaped = true;
-        } else {
-            text.push(b)?;
-        }
+    let mut bytes = shown.bytes();
+    while let Some(b) = bytes.next() {
+        text.push(match b {
+            b'\\' => bytes.next().map_or(b, byte_after_backslash),
+            _ => b,
+        })?;
     }
     Ok(text)
 }
