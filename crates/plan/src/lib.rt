@@ -29,7 +29,7 @@ pub struct Channel {
 }
 
 // A call on the running link.
-#[derive(Clone, Copy)]
+#[derive(Clone, Copy, Debug, PartialEq, Eq)]
 pub enum Call {
     Offer { mat: u8, bytes: u32 },
     Bulk { bytes: u32 },
@@ -46,12 +46,13 @@ pub struct Plan {
 }
 
 // Why a text was not read: its first malformed line (line 0 is a section's count), or no memory.
-#[derive(Clone, Copy)]
+#[derive(Clone, Copy, Debug, PartialEq, Eq)]
 pub enum Fault {
     Malformed { section: u32, line: u32 },
     NoMemory,
 }
 
+// Both are written by hand: a derived From has no contract, and the answer of `read` names the case.
 impl From<AllocError> for Fault {
     ghost from_gives = { λ _ r. r ≡ NoMemory };
 
