@@ -1,17 +1,22 @@
 -- Where a section breaks off, by the step that failed.
-use Rattle.std.proofs.Common.{◌≡◌, ℕ, suc, ◌+◌, ◌<◌, List, [], ◌∷◌, ◌++◌, map, length, IsErrAnd, Ok, Err, decimal, Result, sym, ap, ◌∙◌, subst, append_assoc, arith}
+use Rattle.std.proofs.Common.{◌≡◌, ℕ, suc, ◌+◌, ◌<◌, List, [], ◌∷◌, ◌++◌, map, length, IsErrAnd, Err, decimal, Result, sym, ap, ◌∙◌, subst, append_assoc, arith}
 use Rattle.std.proofs.ByRecursion.{All-push}
 use Rattle.std.proofs.lemmas.List.{length_push, map_push}
 use Rattle.std.proofs.lemmas.Result.{err_from_is_err_and}
 use Rattle.std.specs.List.{AllByRecursion}
-use Rattle.plan.specs.Lines.{Words, line, Fits}
-use Rattle.plan.specs.Steps.{NextCount, NextEntry, BrokenAt, no_count, no_entry, Sectioned}
+use Rattle.plan.specs.Lines.{Words, line, Number, Fits}
+use Rattle.plan.specs.Steps.{Fails, Lacks, BrokenAt, no_count, no_entry}
 use Rattle.plan.specs.declared.Fault.{Fault}
 use Rattle.plan.specs.declared.Fault.TheVariants.{Malformed, NoMemory}
 
 -- what a `?` on a fault returns
 pub fault_passed : {T : Type 0} (r : Result T Fault) (e : Fault) → IsErrAnd r (λ y. y ≡ e) → r ≡ Err e
 fault_passed r e h = let p = err_from_is_err_and r h in p.1 ∙ ap Err p.2
+
+-- a fault of a step is one of the section that the step is part of
+pub fails_so : (e : Fault) (here sec : ℕ) (P Q : ℕ → Type 0) → here ≡ sec → ((l : ℕ) → P l → Q l) → Fails e here P → Fails e sec Q
+fails_so (Malformed s l) here sec P Q same so (p, h) = (p ∙ same, so l h)
+fails_so NoMemory here sec P Q same so h = tt
 
 module _ {X : Type 0} (words : X → Words) (mats : X → List ℕ) where
   abbrev line_of : X → List ℕ
@@ -30,13 +35,11 @@ module _ {X : Type 0} (words : X → Words) (mats : X → List ℕ) where
     split = h.split ∙ ap (λ l. map line_of xs ++ l) e ∙ sym (append_assoc (map line_of xs) (line_of x ∷ []) rest) ∙ ap (λ l. l ++ rest) (sym (ap (map line_of) more ∙ map_push line_of xs x));
   }
 
-  pub count_broken : (sec : ℕ) (ls : List (List ℕ)) (e : Fault) → NextCount sec ls [] (Err e) → Sectioned words mats sec ls [] (Err e)
-  count_broken sec ls (Malformed s l) (same, zero-line, lacks) = (same, subst (BrokenAt words mats ls) (sym zero-line) (no_count lacks))
-  count_broken sec ls NoMemory h = tt
+  pub broken_at_count : {ls : List (List ℕ)} (l : ℕ) → (l ≡ 0) × Lacks decimal Number ls → BrokenAt words mats ls l
+  broken_at_count {ls} l (first, lacks) = subst (BrokenAt words mats ls) (sym first) (no_count lacks)
 
-  pub entry_broken : (sec n k : ℕ) {here : ℕ} {ls after mid : List (List ℕ)} {xs : List X} (e : Fault) → NextCount sec ls after (Ok n) → Entries after k xs mid → k < n → here ≡ sec → NextEntry words mats here (k + 1) mid [] (Err e) → Sectioned words mats sec ls [] (Err e)
-  entry_broken sec n k {here} {ls} {after} {mid} {xs} (Malformed s l) (small, counted) h fewer place (same, at, lacks) =
+  pub broken_at_entry : {ls after mid : List (List ℕ)} {xs : List X} (n k : ℕ) → Number n × (ls ≡ decimal n ∷ after) → Entries after k xs mid → k < n → (l : ℕ) → (l ≡ k + 1) × Lacks line_of (Fits words mats) mid → BrokenAt words mats ls l
+  broken_at_entry {ls} {after} {mid} {xs} n k (small, counted) h fewer l (at, lacks) =
       let many = h.many in
-      let line : suc (length xs) ≡ l = omega arith in
-      (same ∙ place, subst (BrokenAt words mats ls) line (no_entry n xs mid small h.fit (omega arith) (counted ∙ ap (λ r. decimal n ∷ r) h.split) lacks))
-  entry_broken sec n k NoMemory counted h fewer place failed = tt
+      let place : suc (length xs) ≡ l = omega arith in
+      subst (BrokenAt words mats ls) place (no_entry n xs mid small h.fit (omega arith) (counted ∙ ap (λ r. decimal n ∷ r) h.split) lacks)

@@ -2,7 +2,6 @@ pub mod Breaks
 pub mod Broken
 pub mod Cuts
 pub mod Decimals
-pub mod Failed
 pub mod Laws
 pub mod Listed
 pub mod Parsed

@@ -20,13 +20,17 @@ Padded bytes = ((0 < length bytes) × (slice_index bytes 0 ≡ 43)) ⊎ ((1 < le
 abbrev pub Lacks : {X : Type 0} → (X → List ℕ) → (X → Type 0) → List (List ℕ) → Type 0
 Lacks {X} written ok ls = (x : X) → ok x → take 1 ls ≢ written x ∷ []
 
--- What stands on the next line, whose place in the plan is `sec` and `num`, or that nothing does which may.
+-- A fault at a line of a section, of which At holds, or no memory.
+abbrev pub Fails : Fault → ℕ → (ℕ → Type 0) → Type 0
+Fails (Malformed s l) sec At = (s ≡ sec) × At l
+Fails NoMemory sec At = Unit {0}
+
+-- The value on the next line, whose place is `sec` and `num`, or no value there.
 abbrev pub Next : {X : Type 0} → (X → List ℕ) → (X → Type 0) → ℕ → ℕ → List (List ℕ) → List (List ℕ) → Result X Fault → Type 0
 Next written ok sec num ls rest (Ok x) = ok x × (ls ≡ written x ∷ rest)
-Next written ok sec num ls rest (Err (Malformed s l)) = (s ≡ sec) × (l ≡ num) × Lacks written ok ls
-Next written ok sec num ls rest (Err NoMemory) = Unit {0}
+Next written ok sec num ls rest (Err e) = Fails e sec (λ l. (l ≡ num) × Lacks written ok ls)
 
--- A count on the next line.
+-- A count on the next line, which is line 0 of its section.
 abbrev pub NextCount : ℕ → List (List ℕ) → List (List ℕ) → Result ℕ Fault → Type 0
 NextCount sec ls rest r = Next decimal Number sec 0 ls rest r
 
@@ -42,5 +46,4 @@ pub data BrokenAt {X : Type 0} (words : X → Words) (mats : X → List ℕ) (ls
 -- The entries of a section, or the line at which it breaks off.
 abbrev pub Sectioned : {X : Type 0} → (X → Words) → (X → List ℕ) → ℕ → List (List ℕ) → List (List ℕ) → Result (Vec X Global) Fault → Type 0
 Sectioned words mats sec ls rest (Ok v) = FitSection words mats (vec_items v) × (ls ≡ section words (vec_items v) ++ rest)
-Sectioned words mats sec ls rest (Err (Malformed s l)) = (s ≡ sec) × BrokenAt words mats ls l
-Sectioned words mats sec ls rest (Err NoMemory) = Unit {0}
+Sectioned words mats sec ls rest (Err e) = Fails e sec (BrokenAt words mats ls)
