@@ -1,16 +1,13 @@
 -- A section that breaks off: a whole section begins as the text does, and none goes on as it does.
-use Rattle.std.proofs.Common.{◌≡◌, ℕ, zero, suc, ◌-◌, ◌<◌, ◌≤◌, List, [], ◌∷◌, ◌++◌, map, length, take, drop, replicate, decimal, sym, refl, ap, ◌∙◌, arith}
+use Rattle.std.proofs.Common.{◌≡◌, ℕ, suc, ◌-◌, ◌<◌, ◌≤◌, List, [], ◌∷◌, ◌++◌, map, length, take, drop, replicate, decimal, sym, refl, ap, ◌∙◌, arith}
 use Rattle.std.proofs.lemmas.Fmt.{decimal_injective}
 use Rattle.std.proofs.ByRecursion.{All-append}
 use Rattle.std.proofs.lemmas.List.{drop_at, length-append, length-map, length-replicate, map-append, take_at}
+use Rattle.std.proofs.lemmas.List.Elements.{All-replicate, recursion_from_All}
 use Rattle.std.specs.List.{AllByRecursion}
 use Rattle.plan.specs.Format.{section, FitSection}
 use Rattle.plan.specs.Lines.{Words, line, Number, Fits}
 use Rattle.plan.specs.Steps.{BrokenAt, no_count, no_entry}
-
-pub all_replicate : {X : Type 0} (P : X → Type 0) (n : ℕ) (x : X) → P x → AllByRecursion P (replicate n x)
-all_replicate P zero x p = tt
-all_replicate P (suc n) x p = (p, all_replicate P n x p)
 
 pub same_parts : {X : Type 0} (xs ys t u : List X) → length xs ≡ length ys → xs ++ t ≡ ys ++ u → (xs ≡ ys) × (t ≡ u)
 same_parts xs ys t u long e = (
@@ -73,7 +70,7 @@ module _ {X : Type 0} (words : X → Words) (mats : X → List ℕ) where
         xs = xs ++ fill;
         split = split;
         at = ap suc (length-map xs (λ x. line (words x)));
-        fit = (omega arith, All-append (Fits words mats) xs fill fit (all_replicate (Fits words mats) (n - length xs) filler ok));
+        fit = (omega arith, All-append (Fits words mats) xs fill fit (recursion_from_All (Fits words mats) fill (All-replicate (Fits words mats) (n - length xs) filler ok)));
         begins = let m = map-append (λ x. line (words x)) xs fill in cc;
         within = omega arith;
         stops = λ ys t v fits e h.

@@ -4,6 +4,7 @@ pub mod Cuts
 pub mod Decimals
 pub mod Laws
 pub mod Listed
+pub mod Mapped
 pub mod Parsed
 pub mod Parts
 pub mod Pieces

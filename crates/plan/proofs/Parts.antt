@@ -1,10 +1,10 @@
 -- The answer to a text, by the steps that read it.
-use Rattle.std.proofs.Common.{◌≡◌, ℕ, ◌+◌, ◌≤◌, List, [], ◌∷◌, ◌++◌, length, take, IsErrAnd, Ok, Err, vec_items, decimal, Result, sym, ap, ◌∙◌, subst, inr, append-nil, arith}
+use Rattle.std.proofs.Common.{◌≡◌, ℕ, ◌≤◌, List, [], ◌∷◌, ◌++◌, length, take, IsErrAnd, Ok, Err, vec_items, decimal, Result, sym, ap, ◌∙◌, subst, inr, append-nil, arith}
 use Rattle.std.proofs.lemmas.List.{length-append, length-map}
 use Rattle.plan.specs.Format.{section, cut, FitSection}
 use Rattle.plan.specs.Lines.{line, longest_words, channel_words, channel_mats, call_words, call_mats, Number}
 use Rattle.plan.specs.Reading.{Read, StopsAt}
-use Rattle.plan.specs.Steps.{Fails, Lacks}
+use Rattle.plan.specs.Steps.{Fails}
 use Rattle.plan.specs.declared.Fault.{Fault}
 use Rattle.plan.specs.declared.Fault.TheVariants.{Malformed, NoMemory}
 use Rattle.plan.specs.declared.Plan.{Plan}

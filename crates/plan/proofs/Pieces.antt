@@ -10,6 +10,7 @@ use Rattle.std.proofs.lemmas.List.Splits.{slice_split_none, slice_split_at, join
 use Rattle.std.specs.List.{slice_split, join_with_byte}
 use Rattle.plan.specs.Lines.{fields, Number, Numbers}
 use Rattle.plan.proofs.Decimals.{decimal_lacks}
+use Rattle.plan.proofs.Mapped.{same_from_map}
 
 abbrev pub pieces : List ℕ → List (List ℕ)
 pieces tail = slice_split (λ b. eqb b 32) tail
@@ -37,19 +38,10 @@ pub fields_of_pieces : (tail ns : List ℕ) → [] ∷ map decimal ns ≡ pieces
 fields_of_pieces tail ns e =
     sym (joined_fields ns) ∙ ap (join_with_byte 32) e ∙ join_with_byte-slice_split 32 tail
 
-same_numbers : (ms ns : List ℕ) → Numbers ms → Numbers ns → map decimal ms ≡ map decimal ns → ms ≡ ns
-same_numbers [] [] p q e = refl
-same_numbers [] (n ∷ ns) p q e = absurd (omega (arith, ap length e))
-same_numbers (m ∷ ms) [] p q e = absurd (omega (arith, ap length e))
-same_numbers (m ∷ ms) (n ∷ ns) p q e =
-    let first : decimal m ≡ decimal n = cc in
-    let one = decimal_injective m n (omega arith) (omega arith) first in
-    let more = same_numbers ms ns p.1 q.1 (ap (drop 1) e) in
-    cc
-
 pub same_from_fields : (ms ns : List ℕ) → Numbers ms → Numbers ns → fields ms ≡ fields ns → ms ≡ ns
 same_from_fields ms ns p q e =
-    same_numbers ms ns p q (ap (drop 1) (sym (pieces_of_fields ms p) ∙ ap pieces e ∙ pieces_of_fields ns q))
+    same_from_map decimal Number (λ m n small few same. decimal_injective m n (omega arith) (omega arith) same) ms ns p q
+    (ap (drop 1) (sym (pieces_of_fields ms p) ∙ ap pieces e ∙ pieces_of_fields ns q))
 
 number_at : (ns : List ℕ) (k : ℕ) (field : List ℕ) → Numbers ns → k < length (map decimal ns) → field ≡ get_or (map decimal ns) k field → (n : ℕ) × Number n × (decimal n ≡ field)
 number_at [] k field small within e = absurd (omega arith)

@@ -1,5 +1,5 @@
 -- Two plans with the same lines are the same.
-use Rattle.std.proofs.Common.{◌≡◌, ℕ, cond, eqb, List, [], ◌∷◌, ◌++◌, map, get_or, drop, sym, refl, ap, ◌∙◌, arith}
+use Rattle.std.proofs.Common.{◌≡◌, ℕ, cond, eqb, List, [], ◌++◌, map, get_or, drop, sym, refl, ap, ◌∙◌}
 use Rattle.std.specs.List.{AllByRecursion}
 use Rattle.traffic.specs.declared.bucket.Bucket.{Bucket}
 use Rattle.traffic.specs.declared.mixture.Mixture.{Mixture}
@@ -11,18 +11,13 @@ use Rattle.plan.specs.declared.Call.{Call}
 use Rattle.plan.specs.declared.Call.TheVariants.{Offer, Bulk, Ticks, Release}
 use Rattle.plan.specs.declared.Channel.{Channel}
 use Rattle.plan.proofs.Breaks.{section_front}
+use Rattle.plan.proofs.Mapped.{same_from_map}
 use Rattle.plan.proofs.Parsed.{same_from_line}
 
 -- entries whose words tell them apart are told apart by their lines
 pub same_from_lines_of : {X : Type 0} (words : X → Words) (mats : X → List ℕ) → ((x y : X) → words x ≡ words y → x ≡ y) → (xs ys : List X) → AllByRecursion (Fits words mats) xs → AllByRecursion (Fits words mats) ys → map (λ x. line (words x)) xs ≡ map (λ x. line (words x)) ys → xs ≡ ys
-same_from_lines_of words mats told [] [] p q e = refl
-same_from_lines_of words mats told [] (y ∷ ys) p q e = let z : ◌≡◌ {A = ℕ} 0 1 = cc in absurd (omega arith)
-same_from_lines_of words mats told (x ∷ xs) [] p q e = let z : ◌≡◌ {A = ℕ} 0 1 = cc in absurd (omega arith)
-same_from_lines_of words mats told (x ∷ xs) (y ∷ ys) p q e =
-    let first : line (words x) ≡ line (words y) = cc in
-    let one = told x y (same_from_line (words x) (words y) p.0.0 q.0.0 first) in
-    let more = same_from_lines_of words mats told xs ys p.1 q.1 (ap (drop 1) e) in
-    cc
+same_from_lines_of words mats told xs ys p q e =
+    same_from_map (λ x. line (words x)) (Fits words mats) (λ x y fit fits same. told x y (same_from_line (words x) (words y) fit.0 fits.0 same)) xs ys p q e
 
 -- the channel that words say
 channel_of : Words → Channel

@@ -1,5 +1,5 @@
 -- Where a text stops being the beginning of a plan, by the step that failed.
-use Rattle.std.proofs.Common.{◌≡◌, ℕ, suc, ◌+◌, ◌-◌, ◌<◌, ◌≤◌, cond, ltb, List, [], ◌∷◌, ◌++◌, length, take, drop, decimal, sym, refl, ap, ◌∙◌, subst, append_assoc, append-nil, arith}
+use Rattle.std.proofs.Common.{◌≡◌, ℕ, suc, ◌+◌, ◌<◌, ◌≤◌, List, [], ◌∷◌, ◌++◌, length, take, drop, decimal, sym, refl, ap, ◌∙◌, subst, append_assoc, append-nil, arith}
 use Rattle.std.proofs.lemmas.Fmt.{decimal_injective}
 use Rattle.std.proofs.lemmas.List.{length-append, length-map, take_at}
 use Rattle.std.proofs.lemmas.Bool.Decides.{nat_tests}
@@ -11,7 +11,7 @@ use Rattle.plan.specs.Steps.{BrokenAt, Lacks}
 use Rattle.plan.specs.declared.Call.{Call}
 use Rattle.plan.specs.declared.Call.TheVariants.{Bulk}
 use Rattle.plan.specs.declared.Channel.{Channel}
-use Rattle.plan.proofs.Breaks.{Breaks, breaks, section_front}
+use Rattle.plan.proofs.Breaks.{breaks, section_front}
 
 place_one : (s : Script) (i : ℕ) → i < 2 → (1, i) ≡ place s i
 place_one s i h = grind (arith, nat_tests)
@@ -67,9 +67,9 @@ stops_without_count ls l (first, lacks) =
 pub stops_at_other_count : (ls rest : List (List ℕ)) (n : ℕ) → Number n × (ls ≡ decimal n ∷ rest) → (n ≡ 1 → ⊥) → StopsAt ls (1, 0)
 stops_at_other_count ls rest n (small, counted) other =
     stops_at_first_count ls (λ h.
-        let f = sym (ap (take 1) counted) ∙ h in
-        let d : decimal n ≡ decimal 1 = cc in
-        other (decimal_injective n 1 (omega arith) (omega arith) d))
+    let f = sym (ap (take 1) counted) ∙ h in
+    let d : decimal n ≡ decimal 1 = cc in
+    other (decimal_injective n 1 (omega arith) (omega arith) d))
 
 pub stops_at_longest : (ls rest : List (List ℕ)) → ls ≡ decimal 1 ∷ rest → Lacks (λ p. line (longest_words p)) Number rest → StopsAt ls (1, 1)
 unfolding bare

@@ -19,5 +19,5 @@ pub loop-read-preserved : goal.loop-read-preserved
 loop-read-preserved g c = (
   c.entry.ensures.same_section ∙ c.loop-read.invariant.0,
   one_more_entry g.E.Entry.words g.E.Entry.mats c.in_ok-entry.field-0 c.loop-read.invariant.1 c.in_ok-entry.ensures.read
-  (pushed (c.in_ok-entry.field-0 ∷ []) refl c.in_ok-push.was c.push.ensures.items),
+      (pushed (c.in_ok-entry.field-0 ∷ []) refl c.in_ok-push.was c.push.ensures.items),
 )
