@@ -1,5 +1,6 @@
 -- A plan that is written out is cut into its lines again.
 use Rattle.std.proofs.Common.{◌≡◌, ℕ, ◌<◌, false, eqb, List, [], ◌∷◌, ◌++◌, map, length, decimal, sym, refl, ap, ◌∙◌, subst, ⊎_elim, arith}
+use Rattle.std.proofs.lemmas.Fmt.{decimal_nonempty}
 use Rattle.std.proofs.ByRecursion.{All-append, all-has, All-weaker, has_push}
 use Rattle.std.proofs.lemmas.List.Elements.{recursion_from_All}
 use Rattle.std.specs.List.{AllByRecursion}
@@ -13,14 +14,14 @@ use Rattle.plan.specs.Reading.{Spells}
 use Rattle.plan.specs.declared.Call.{Call}
 use Rattle.plan.specs.declared.Call.TheVariants.{Offer, Bulk, Ticks, Release}
 use Rattle.plan.proofs.Cuts.{Unbroken, cut_ended, cut_unbroken, ended_cut, ended_more, same_from_ended}
-use Rattle.plan.proofs.Decimals.{decimal_lacks, some_decimal}
+use Rattle.plan.proofs.Decimals.{decimal_lacks}
 
 -- a line that is not empty and has no byte 10
 abbrev Solid : List ℕ → Type 0
 Solid l = Unbroken l × (0 < length l)
 
 solid_decimal : (n : ℕ) → Number n → Solid (decimal n)
-solid_decimal n small = (recursion_from_All (λ b. eqb b 10 ≡ false) (decimal n) (decimal_lacks n 10 small (λ h. omega arith)), some_decimal n small)
+solid_decimal n small = (recursion_from_All (λ b. eqb b 10 ≡ false) (decimal n) (decimal_lacks n 10 small (λ h. omega arith)), decimal_nonempty n (omega arith))
 
 fields_unbroken : (ns : List ℕ) → Numbers ns → Unbroken (fields ns)
 fields_unbroken [] small = tt
