@@ -11,10 +11,9 @@ use Rattle.traffic.specs.declared.Row.{Row}
 use Rattle.verdict.specs.Demand.{blocking}
 use Rattle.verdict.specs.Judged.{Judged, Judgeable}
 use Rattle.verdict.specs.Passes.{Passes}
-use Rattle.verdict.specs.declared.Verdict.{Verdict}
-use Rattle.verdict.specs.declared.Verdict.TheVariants.{Granted, OutsideLimits, Overloaded as Heavy, Late as Fails}
+use Rattle.verdict.specs.declared.Unfit.{Unfit}
 use Rattle.verdict.proofs.Exactness.{judged_exact}
-use Rattle.link.specs.declared.refusals.Refusal.{Refusal}
+use Rattle.refusals.specs.declared.Refusal.{Refusal}
 use Rattle.link.specs.declared.state.Bulk.{Bulk}
 use Rattle.link.specs.declared.state.Event.{Event}
 use Rattle.link.specs.declared.state.Event.TheVariants.{Confirm, Cancel, Release}
@@ -23,15 +22,14 @@ use Rattle.link.specs.declared.state.Packet.{Packet}
 use Rattle.link.specs.declared.state.Phase.{Phase}
 use Rattle.link.specs.declared.state.Phase.TheVariants.{Free, Held, Live, Leaving}
 use Rattle.link.specs.declared.state.Sent.{Sent}
-use Rattle.link.specs.declared.state.Sought.TheVariants.{OfMat, OfHold}
 use Rattle.link.specs.Happenings.{Happening, grants, accepts, passes, other, happening, happenings}
 use Rattle.link.specs.History.{Call, held, offered, ticked, History, opening, hold, confirm, cancel, release, offer, bulk, tick, stretch, least, piece}
 use Rattle.link.specs.Holding.{Vacant, filled, hold_cause, HeldOr, Decided}
 use Rattle.link.specs.Model.{FullRow, Model, find, channels, with_rows, on_row}
 use Rattle.link.specs.Outcomes.{Answered}
 use Rattle.link.specs.Packets.{slots, offer_bytes_lem, bulk_bytes_lem, is_mat_lem, told}
-use Rattle.link.specs.Refusals.{decided}
-use Rattle.link.specs.Rows.{fits, is_held, is_live, may_release_lem, changed}
+use Rattle.refusals.specs.Refusals.{decided}
+use Rattle.link.specs.Rows.{counted_of, held_of, is_held, is_live, may_release_lem, changed}
 use Rattle.link.specs.Sending.{admitted, offer_admitted, offer_row, offer_place, offer_outcome, Offered, queued, bulk_waits, bulk_outcome, with_bulk}
 use Rattle.link.specs.Settling.{GivenBack, settled, settled_at, moved_at, release_row, release_place, release_outcome}
 use Rattle.link.specs.Ticking.{Begins, passed, tick_cause, Ticked}
@@ -69,7 +67,7 @@ module _ {X S : Type 0} (numbers : X → Numbers) (limits : X → ℕ → Bool) 
     pub place : ℕ
     pub vacant : Vacant n place
     pub named : 1 ≤ mat
-    pub uncounted : AllByRecursion (λ (r : FullRow X S). fits (OfMat mat) r.entry ≡ false) n.rows
+    pub uncounted : AllByRecursion (λ (r : FullRow X S). counted_of mat r.entry ≡ false) n.rows
     pub judged : Judgeable limits n.terms.longest (length n.rows) (channels n.rows ++ k ∷ [])
     pub within : limits k n.terms.longest ≡ true
     pub passing : Passes numbers (blocking n.terms.longest) (channels n.rows ++ k ∷ [])
@@ -83,7 +81,7 @@ module _ {X S : Type 0} (numbers : X → Numbers) (limits : X → ℕ → Bool) 
     pub at : ℕ
     pub bytes : ℕ
     pub found : slice_get n.rows place ≡ Some row
-    pub fitting : fits (OfMat mat) row.entry ≡ true
+    pub fitting : counted_of mat row.entry ≡ true
     pub live : is_live row.entry.phase ≡ true
     pub named : 1 ≤ mat
     pub taken : (steps row.row.kind).step row.row.state n.clock (slots bytes) ≡ Some after
@@ -131,7 +129,7 @@ module _ {X S : Type 0} (numbers : X → Numbers) (limits : X → ℕ → Bool) 
     row : FullRow X S
     after : S
     found : slice_get m.rows j ≡ Some row
-    fitting : fits (OfMat mat) row.entry ≡ true
+    fitting : counted_of mat row.entry ≡ true
     live : is_live row.entry.phase ≡ true
     taken : (steps row.row.kind).step row.row.state m.clock (slots bytes) ≡ Some after
     stores : record { kind = row.row.kind; state = after } ≡ w
@@ -144,7 +142,7 @@ module _ {X S : Type 0} (numbers : X → Numbers) (limits : X → ℕ → Bool) 
   err_ok : {U : Type 0} (e : Refusal) (u : U) → ◌≡◌ {A = Result U Refusal} (Err e) (Ok u) → ⊥
   err_ok e u h = let z : ◌≡◌ {A = ℕ} 0 1 = cc in omega arith
 
-  offer_at : (m : Model X S) (mat place bytes i : ℕ) (r : FullRow X S) (j : ℕ) (w : Row X S) (p : Packet) → slice_get m.rows i ≡ Some r → fits (OfMat mat) r.entry ≡ true →
+  offer_at : (m : Model X S) (mat place bytes i : ℕ) (r : FullRow X S) (j : ℕ) (w : Row X S) (p : Packet) → slice_get m.rows i ≡ Some r → counted_of mat r.entry ≡ true →
       offer_row numbers limits steps m mat place bytes i (Some r) ≡ Ok (j, w, p) → Admits m mat place bytes j w p
   offer_at m mat place bytes i r j w p found fit h =
       let (live, q) = cond_ok (is_live r.entry.phase) _ _ _ (err_ok _ _) h in
@@ -161,18 +159,18 @@ module _ {X S : Type 0} (numbers : X → Numbers) (limits : X → ℕ → Bool) 
         waits = ap (λ x. packet m x mat place bytes) d ∙ is;
       }
 
-  offer_found : (m : Model X S) (mat place bytes : ℕ) (o : Option ℕ) (j : ℕ) (w : Row X S) (p : Packet) → find (OfMat mat) m ≡ o →
+  offer_found : (m : Model X S) (mat place bytes : ℕ) (o : Option ℕ) (j : ℕ) (w : Row X S) (p : Packet) → find (counted_of mat) m ≡ o →
       offer_place numbers limits steps m mat place bytes o ≡ Ok (j, w, p) → Admits m mat place bytes j w p
   offer_found m mat place bytes None j w p f h = absurd (err_ok _ _ h)
   offer_found m mat place bytes (Some i) j w p f h =
-      let (r, at, fit) = first_passes (λ (r : FullRow X S). fits (OfMat mat) r.entry) m.rows i f in
+      let (r, at, fit) = first_passes (λ (r : FullRow X S). counted_of mat r.entry) m.rows i f in
       offer_at m mat place bytes i r j w p at fit (subst (λ x. offer_row numbers limits steps m mat place bytes i x ≡ Ok (j, w, p)) at h)
 
   offer_admitted_as : (m : Model X S) (mat place bytes j : ℕ) (w : Row X S) (p : Packet) → offer_outcome numbers limits steps m mat place bytes ≡ Ok (j, w, p) →
       (1 ≤ mat) × Admits m mat place bytes j w p
   offer_admitted_as m mat place bytes j w p h =
       let (named, q) = cond_ok (is_mat_lem mat && offer_bytes_lem bytes) _ _ _ (err_ok _ _) (unless_refused m.terms.shut _ _ _ h) in
-      (leb-true 1 mat (and_parts (is_mat_lem mat) (offer_bytes_lem bytes) named).0, offer_found m mat place bytes (find (OfMat mat) m) j w p refl q)
+      (leb-true 1 mat (and_parts (is_mat_lem mat) (offer_bytes_lem bytes) named).0, offer_found m mat place bytes (find (counted_of mat) m) j w p refl q)
 
   offer_changes : (n : Model X S) (mat place bytes : ℕ) (x : Result (ℕ × Row X S × Packet) Refusal) (r : Result (Unit {0}) Refusal) (o : Model X S) → offer_outcome numbers limits steps n mat place bytes ≡ x →
       Offered x n r o → Change n o (happening (offered mat place bytes r))
@@ -199,17 +197,17 @@ module _ {X S : Type 0} (numbers : X → Numbers) (limits : X → ℕ → Bool) 
 
   -- Holds settled and released.
 
-  settled_changes : (e : Event) → ((p : Phase) → is_held p ≡ true → Moves e p) → (n : Model X S) (mat serial : ℕ) (x : Option ℕ) (o : Model X S) → find (OfHold mat serial) n ≡ x →
+  settled_changes : (e : Event) → ((p : Phase) → is_held p ≡ true → Moves e p) → (n : Model X S) (mat serial : ℕ) (x : Option ℕ) (o : Model X S) → find (held_of mat serial) n ≡ x →
       settled_at e n x ≡ Ok o → Change n o other
   settled_changes e may n mat serial None o f h = absurd (err_ok _ _ h)
   settled_changes e may n mat serial (Some i) o f h =
-      let (r, at, fit) = first_passes (λ (r : FullRow X S). fits (OfHold mat serial) r.entry) n.rows i f in
+      let (r, at, fit) = first_passes (λ (r : FullRow X S). held_of mat serial r.entry) n.rows i f in
       let is-it = (and_parts (eqb r.entry.serial serial) _ (and_parts (eqb r.entry.mat mat) _ fit).1).1 in
       moves e i r at (may r.entry.phase is-it) (sym (ok_same (moved_at e n i) o h))
 
   hold_settles : (e : Event) → ((p : Phase) → is_held p ≡ true → Moves e p) → (h : Hold) (n o : Model X S) → settled e h n ≡ Ok o → Change n o other
   hold_settles e may h n o q =
-      settled_changes e may n h.mat h.serial (find (OfHold h.mat h.serial) n) o refl (else_refused _ _ _ _ (unless_refused n.terms.shut _ _ _ q))
+      settled_changes e may n h.mat h.serial (find (held_of h.mat h.serial) n) o refl (else_refused _ _ _ _ (unless_refused n.terms.shut _ _ _ q))
 
   same_change : (n a o : Model X S) → o ≡ a → Change n a other → Change n o other
   same_change n a o e c = subst (λ (x : Model X S). Change n x other) (sym e) c
@@ -253,18 +251,14 @@ module _ {X S : Type 0} (numbers : X → Numbers) (limits : X → ℕ → Bool) 
   -- Channels granted.
 
   module _ (shaped : (k : X) (p : ℕ) → 1 ≤ p → p ≤ 255 → limits k p ≡ true → CurveLaws p (numbers k)) where
-    decided_changes : (v : Verdict) (n : Model X S) (mat : ℕ) (k : X) (r : Result (Hold × ℕ) Refusal) (o : Model X S) → hold_cause limits n mat k ≡ None →
+    decided_changes : (v : Result ℕ Unfit) (n : Model X S) (mat : ℕ) (k : X) (r : Result (Hold × ℕ) Refusal) (o : Model X S) → hold_cause limits n mat k ≡ None →
         Judged numbers limits n.terms.longest (length n.rows) (channels n.rows ++ k ∷ []) v →
         Decided numbers limits steps (decided v) n mat k r o → Change n o (happening (held mat k r))
-    decided_changes OutsideLimits n mat k (Ok h) o c j (w, g) = absurd (err_ok _ _ (sym w))
-    decided_changes OutsideLimits n mat k (Err e) o c j (w, g) = unchanged g
-    decided_changes Heavy n mat k (Ok h) o c j (w, g) = absurd (err_ok _ _ (sym w))
-    decided_changes Heavy n mat k (Err e) o c j (w, g) = unchanged g
-    decided_changes (Fails point count) n mat k (Ok h) o c j (w, g) = absurd (err_ok _ _ (sym w))
-    decided_changes (Fails point count) n mat k (Err e) o c j (w, g) = unchanged g
-    decided_changes (Granted count) n mat k (Err e) o c j (i, vacant, w, g) = absurd (err_ok _ _ w)
-    decided_changes (Granted count) n mat k (Ok h) o c j (i, vacant, w, g) =
-        let exact = judged_exact numbers limits shaped n.terms.longest (length n.rows) (channels n.rows ++ k ∷ []) (Granted count) j in
+    decided_changes (Err unfit) n mat k (Ok h) o c j (w, g) = absurd (err_ok _ _ (sym w))
+    decided_changes (Err unfit) n mat k (Err e) o c j (w, g) = unchanged g
+    decided_changes (Ok count) n mat k (Err e) o c j (i, vacant, w, g) = absurd (err_ok _ _ w)
+    decided_changes (Ok count) n mat k (Ok h) o c j (i, vacant, w, g) =
+        let exact = judged_exact numbers limits shaped n.terms.longest (length n.rows) (channels n.rows ++ k ∷ []) (Ok count) j in
         counts mat k (record {
           place = i;
           vacant = vacant;
@@ -291,7 +285,7 @@ module _ {X S : Type 0} (numbers : X → Numbers) (limits : X → ℕ → Bool) 
       along (confirm {cs} {n} {o} x r h c) = step _ n o _ (given_changes x n (settled Confirm x n) r o (hold_settles Confirm held_confirms x n) c) (along h)
       along (cancel {cs} {n} {o} x r h c) = step _ n o _ (answered_changes n (settled Cancel x n) r o (hold_settles Cancel held_cancels x n) c) (along h)
       along (release {cs} {n} {o} mat r h c) =
-          step _ n o _ (answered_changes n (release_outcome n mat) r o (λ a e. release_found n (find (OfMat mat) n) a (else_refused (is_mat_lem mat) _ _ _ (unless_refused n.terms.shut _ _ _ e))) c) (along h)
+          step _ n o _ (answered_changes n (release_outcome n mat) r o (λ a e. release_found n (find (counted_of mat) n) a (else_refused (is_mat_lem mat) _ _ _ (unless_refused n.terms.shut _ _ _ e))) c) (along h)
       along (offer {cs} {n} {o} mat place bytes r h c) = step _ n o _ (offer_changes n mat place bytes (offer_outcome numbers limits steps n mat place bytes) r o refl c) (along h)
       along (bulk {cs} {n} {o} place bytes r h c) = step _ n o _ (answered_changes n (bulk_outcome n place bytes) r o (bulk_outcome_changes n place bytes) c) (along h)
       along (tick {cs} {n} {o} r h c) = step _ n o _ (tick_changes (tick_cause n) n r o c) (along h)

@@ -1,18 +1,19 @@
 -- The confirm right after a granted hold is granted.
-use Rattle.std.proofs.Common.{◌≡◌, ℕ, zero, suc, ◌+◌, Bool, true, false, cond, ◌&&◌, eqb, List, [], ◌∷◌, set, Some, None, Ok, Err, Option, Result, sym, refl, ap, subst, arith, eq-eqb}
+use Rattle.std.proofs.Common.{◌≡◌, ℕ, zero, suc, ◌+◌, Bool, true, false, cond, eqb, List, [], ◌∷◌, set, Some, None, Ok, Err, Option, Result, sym, refl, ap, ◌∙◌, subst, arith, eq-eqb}
 use Rattle.std.proofs.lemmas.Bool.{true≢false}
-use Rattle.std.specs.List.{slice_get}
+use Rattle.std.specs.List.{slice_get, position}
 use Rattle.std.specs.Option.{option_map}
 use Rattle.traffic.specs.Arrivals.{Steps}
 use Rattle.traffic.specs.Curves.{Numbers}
 use Rattle.traffic.specs.declared.Row.{Row}
 use Rattle.link.specs.Holding.{Holds, HeldOr, Decided, Vacant, hold_cause, hold_of, filled}
 use Rattle.link.specs.Model.{FullRow, Model}
-use Rattle.link.specs.Refusals.{decided}
-use Rattle.link.specs.Rows.{first, is_held}
+use Rattle.refusals.specs.Refusals.{decided}
+use Rattle.link.specs.Rows.{held_of}
 use Rattle.link.specs.Settling.{Confirms, GivenBack, settled_at}
-use Rattle.link.specs.declared.refusals.Refusal.{Refusal}
+use Rattle.refusals.specs.declared.Refusal.{Refusal}
 use Rattle.link.specs.declared.state.Hold.{Hold}
+use Rattle.link.proofs.Firsts.{position-cons}
 use Rattle.link.proofs.Inversions.{unless_cause}
 
 -- what is found further on is found
@@ -21,12 +22,13 @@ found_later true o j h = (0, refl)
 found_later false o j h = (suc j, ap (option_map suc) h)
 
 -- a list that was given something that passes the test has a first that does
-first_set : {U : Type 0} (P : U → Bool) (xs : List U) (i : ℕ) (x q : U) → slice_get xs i ≡ Some x → P q ≡ true → (j : ℕ) × (first P (set xs i q) ≡ Some j)
+first_set : {U : Type 0} (P : U → Bool) (xs : List U) (i : ℕ) (x q : U) → slice_get xs i ≡ Some x → P q ≡ true → (j : ℕ) × (position P (set xs i q) ≡ Some j)
 first_set P [] i x q h t = let z : ◌≡◌ {A = ℕ} 0 1 = cc in absurd (omega arith)
-first_set P (y ∷ xs) zero x q h t = (0, rw t)
+first_set P (y ∷ xs) zero x q h t = (0, position-cons P q xs ∙ rw t)
 first_set P (y ∷ xs) (suc i) x q h t =
     let rest = first_set P xs i x q h t in
-    found_later (P y) (first P (set xs i q)) rest.0 rest.1
+    let found = found_later (P y) (position P (set xs i q)) rest.0 rest.1 in
+    (found.0, position-cons P y (set xs i q) ∙ found.1)
 
 hold_is : (x y : Hold × ℕ) → ◌≡◌ {A = Result (Hold × ℕ) Refusal} (Ok x) (Ok y) → x.0 ≡ y.0
 hold_is x y h = let same : x ≡ y = cc in ap (λ (z : Hold × ℕ). z.0) same
@@ -34,11 +36,11 @@ hold_is x y h = let same : x ≡ y = cc in ap (λ (z : Hold × ℕ). z.0) same
 module _ {X S : Type 0} where
   -- the row just filled has the hold's numbers
   filled_found : (m : Model X S) (i mat : ℕ) (w : Row X S) → Vacant m i →
-      (j : ℕ) × (first (λ (q : FullRow X S). eqb q.entry.mat mat && (eqb q.entry.serial (m.serials + 1) && is_held q.entry.phase)) (filled m i mat w).rows ≡ Some j)
+      (j : ℕ) × (position (λ (q : FullRow X S). held_of mat (m.serials + 1) q.entry) (filled m i mat w).rows ≡ Some j)
   filled_found m i mat w (r, at, free) =
       let a = eq-eqb mat mat refl in
       let b = eq-eqb (m.serials + 1) (m.serials + 1) refl in
-      first_set (λ (q : FullRow X S). eqb q.entry.mat mat && (eqb q.entry.serial (m.serials + 1) && is_held q.entry.phase)) m.rows i r _ at (rw (a, b))
+      first_set (λ (q : FullRow X S). held_of mat (m.serials + 1) q.entry) m.rows i r _ at (rw (a, b))
 
   -- a confirm whose row is found is granted
   given : (h : Hold) (b d : Bool) (e e' : Refusal) (x : Result (Model X S) Refusal) (n m : Model X S) (r : Result (Unit {0}) (Refusal × Hold)) (o : Model X S) →

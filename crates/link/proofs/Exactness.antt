@@ -6,20 +6,20 @@ use Rattle.traffic.specs.Arrivals.{Steps}
 use Rattle.traffic.specs.Curves.{Numbers}
 use Rattle.verdict.specs.Judged.{Judgeable, Judged}
 use Rattle.verdict.specs.Least.{Least}
-use Rattle.verdict.specs.declared.Verdict.{Verdict}
-use Rattle.verdict.specs.declared.Verdict.TheVariants.{Granted, OutsideLimits, Overloaded as Heavy, Late as Fails}
+use Rattle.verdict.specs.declared.Unfit.{Unfit}
+use Rattle.verdict.specs.declared.Unfit.TheVariants.{OutsideLimits, Overloaded as Heavy, Late as Fails}
 use Rattle.verdict.proofs.Exactness.{judged_exact}
 use Rattle.verdict.proofs.Lengthening.{Lawful}
 use Rattle.schedule.specs.Theorems.{OnEveryLink, OnTime, Needed}
 use Rattle.admission.specs.Exact.{Needful, LeastExact as NeedfulLeast}
 use Rattle.admission.proofs.Needed.{exact_needful, least_exact as needful_least}
-use Rattle.link.specs.declared.refusals.Refusal.{Refusal}
+use Rattle.refusals.specs.declared.Refusal.{Refusal}
 use Rattle.link.specs.declared.state.Hold.{Hold}
 use Rattle.link.specs.Asking.{LeastUnless, Told}
 use Rattle.link.specs.Holding.{HeldOr, Decided}
 use Rattle.link.specs.Model.{Model, channels}
 use Rattle.link.specs.Promise.{HoldTells, HoldExact, LeastTells, LeastExact}
-use Rattle.link.specs.Refusals.{decided}
+use Rattle.refusals.specs.Refusals.{decided}
 use Rattle.link.specs.Standing.{Standing}
 use Rattle.link.proofs.Inversions.{unless_cause, hold_within}
 
@@ -35,20 +35,20 @@ module _ {X S : Type 0} (numbers : X → Numbers) (limits : X → ℕ → Bool) 
       record { least = r.least; most = r.most; few = r.few; within = All-push (λ j. limits j m.terms.longest ≡ true) (channels m.rows) k s.within within }
 
   -- channels that can be judged are refused exactly if they are defeated
-  judged_needful : (p rows : ℕ) (ks : List X) (v : Verdict) → Judged numbers limits p rows ks v → Needful numbers steps limits p rows ks v
+  judged_needful : (p rows : ℕ) (ks : List X) (v : Result ℕ Unfit) → Judged numbers limits p rows ks v → Needful numbers steps limits p rows ks v
   judged_needful p rows ks v j = exact_needful numbers steps limits timely needed p rows ks v (judged_exact numbers limits law.shaped p rows ks v j)
 
   -- what a hold answers by the verdict
-  decided_tells : (m : Model X S) (mat : ℕ) (k : X) (r : Result (Hold × ℕ) Refusal) (o : Model X S) (v : Verdict) →
+  decided_tells : (m : Model X S) (mat : ℕ) (k : X) (r : Result (Hold × ℕ) Refusal) (o : Model X S) (v : Result ℕ Unfit) →
       Able m k → Judged numbers limits m.terms.longest (length m.rows) (channels m.rows ++ k ∷ []) v →
       Decided numbers limits steps (decided v) m mat k r o → HoldTells numbers limits dated steps m k r
-  decided_tells m mat k r o OutsideLimits able j d = absurd (j able)
-  decided_tells m mat k r o Heavy able j d =
-      subst (HoldTells numbers limits dated steps m k) (sym d.0) (record { refused = judged_needful _ _ _ Heavy j able; number = λ e. inl refl })
-  decided_tells m mat k r o (Fails point count) able j d =
-      subst (HoldTells numbers limits dated steps m k) (sym d.0) (record { refused = judged_needful _ _ _ (Fails point count) j able; number = λ e. inr refl })
-  decided_tells m mat k r o (Granted count) able j d =
-      subst (HoldTells numbers limits dated steps m k) (sym d.2) (record { refused = judged_needful _ _ _ (Granted count) j able; number = λ e. absurd (true≢false e) })
+  decided_tells m mat k r o (Err OutsideLimits) able j d = absurd (j able)
+  decided_tells m mat k r o (Err Heavy) able j d =
+      subst (HoldTells numbers limits dated steps m k) (sym d.0) (record { refused = judged_needful _ _ _ (Err Heavy) j able; number = λ e. inl refl })
+  decided_tells m mat k r o (Err (Fails point count)) able j d =
+      subst (HoldTells numbers limits dated steps m k) (sym d.0) (record { refused = judged_needful _ _ _ (Err (Fails point count)) j able; number = λ e. inr refl })
+  decided_tells m mat k r o (Ok count) able j d =
+      subst (HoldTells numbers limits dated steps m k) (sym d.2) (record { refused = judged_needful _ _ _ (Ok count) j able; number = λ e. absurd (true≢false e) })
 
   -- a hold that meets no cause before the verdict is refused exactly if the channels with the new one are defeated
   pub holds_exact : (m : Model X S) → Standing numbers limits m → HoldExact numbers limits dated steps m
@@ -57,7 +57,7 @@ module _ {X S : Type 0} (numbers : X → Numbers) (limits : X → ℕ → Bool) 
       decided_tells m mat k r o v (judgeable m k s (unless_cause m.terms.shut _ _ clear).0 (hold_within limits m mat k clear)) j d
 
   -- what least answers by the verdict
-  told_tells : (m : Model X S) (k : X) (r : Result (ℕ × ℕ) Refusal) (x : Result (ℕ × ℕ) Verdict) →
+  told_tells : (m : Model X S) (k : X) (r : Result (ℕ × ℕ) Refusal) (x : Result (ℕ × ℕ) Unfit) →
       Able m (dated k 40320) → Least numbers limits dated m.terms.longest (length m.rows) (channels m.rows) k x →
       NeedfulLeast numbers steps limits dated m.terms.longest (length m.rows) (channels m.rows) k x → Told x r → LeastTells numbers limits dated steps m k r
   told_tells m k r (Ok found) able least exact told =
@@ -67,7 +67,6 @@ module _ {X S : Type 0} (numbers : X → Numbers) (limits : X → ℕ → Bool) 
       subst (LeastTells numbers limits dated steps m k) (sym told) (record { refused = exact.refused able; number = λ e. inl refl; carried = tt; shorter = tt })
   told_tells m k r (Err (Fails point count)) able least exact told =
       subst (LeastTells numbers limits dated steps m k) (sym told) (record { refused = exact.refused able; number = λ e. inr refl; carried = tt; shorter = tt })
-  told_tells m k r (Err (Granted count)) able least exact told = absurd told
 
   -- least answers the shortest allowance that is not defeated, and refuses exactly if the longest is
   pub least_exact : (m : Model X S) → Standing numbers limits m → LeastExact numbers limits dated steps m

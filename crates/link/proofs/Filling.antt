@@ -9,9 +9,8 @@ use Rattle.verdict.specs.Passes.{Passes}
 use Rattle.verdict.proofs.Totals.{total-push}
 use Rattle.link.specs.declared.state.Phase.{Phase}
 use Rattle.link.specs.declared.state.Phase.TheVariants.{Free, Held}
-use Rattle.link.specs.declared.state.Sought.TheVariants.{OfMat}
 use Rattle.link.specs.Model.{FullRow, Model, channels}
-use Rattle.link.specs.Rows.{counts, counted, fits}
+use Rattle.link.specs.Rows.{counts, counted, counted_of}
 use Rattle.link.specs.Standing.{Differ, Apart, Numbered, Standing}
 use Rattle.link.specs.Holding.{Vacant, filled}
 use Rattle.link.proofs.Places.{all_set}
@@ -61,14 +60,14 @@ module _ {X S : Type 0} where
     all_filled P (x ∷ rs) (suc i) r h e p a =
         all_cond P (counted x.entry) x.row.kind (channels rs) (channels (set rs i q)) (all_filled P rs i r h e p) a
 
-  new_differs : (mat n : ℕ) (q r : FullRow X S) → q.entry.mat ≡ mat → q.entry.serial ≡ n + 1 → fits (OfMat mat) r.entry ≡ false → Numbered n r → Differ q r
+  new_differs : (mat n : ℕ) (q r : FullRow X S) → q.entry.mat ≡ mat → q.entry.serial ≡ n + 1 → counted_of mat r.entry ≡ false → Numbered n r → Differ q r
   new_differs mat n q r m s h b x y = (
     (λ e. true≢false (sym (both_true (eqb r.entry.mat mat) (counts r.entry.phase) (eq-eqb r.entry.mat mat (sym e ∙ m)) y) ∙ h)),
     (λ e. let l = b y in absurd (omega arith)),
   )
 
   all_differ : (mat n : ℕ) (q : FullRow X S) (rs : List (FullRow X S)) → q.entry.mat ≡ mat → q.entry.serial ≡ n + 1 →
-      AllByRecursion (λ (r : FullRow X S). fits (OfMat mat) r.entry ≡ false) rs → AllByRecursion (Numbered n) rs → AllByRecursion (Differ q) rs
+      AllByRecursion (λ (r : FullRow X S). counted_of mat r.entry ≡ false) rs → AllByRecursion (Numbered n) rs → AllByRecursion (Differ q) rs
   all_differ mat n q [] m s h b = tt
   all_differ mat n q (r ∷ rs) m s h b = (new_differs mat n q r m s h.0 b.0, all_differ mat n q rs m s h.1 b.1)
 
@@ -78,7 +77,7 @@ module _ {X S : Type 0} where
 
   -- a granted hold leaves the link standing
   pub standing_filled : (numbers : X → Numbers) (limits : X → ℕ → Bool) (m : Model X S) (i mat : ℕ) (w : Row X S) → Vacant m i →
-      AllByRecursion (λ (r : FullRow X S). fits (OfMat mat) r.entry ≡ false) m.rows → limits w.kind m.terms.longest ≡ true →
+      AllByRecursion (λ (r : FullRow X S). counted_of mat r.entry ≡ false) m.rows → limits w.kind m.terms.longest ≡ true →
       Passes numbers (blocking m.terms.longest) (channels m.rows ++ w.kind ∷ []) → Standing numbers limits m → Standing numbers limits (filled m i mat w)
   standing_filled numbers limits m i mat w (r, at, free) new lim pass h =
       let q : FullRow X S = record { entry = record { mat = mat; serial = m.serials + 1; phase = Held }; row = w } in

@@ -1,14 +1,14 @@
 -- What a granted outcome tells.
-use Rattle.std.proofs.Common.{◌≡◌, ℕ, suc, ◌≤◌, Bool, true, false, cond, ◌&&◌, List, [], ◌∷◌, is_some, Some, None, Ok, Err, Option, Result, sym, refl, arith}
+use Rattle.std.proofs.Common.{◌≡◌, ℕ, suc, ◌≤◌, Bool, true, false, cond, ◌&&◌, List, [], ◌∷◌, is_some, Some, None, Ok, Err, Option, Result, sym, refl, subst, arith}
 use Rattle.std.proofs.lemmas.Bool.{true≢false, and_parts, leb-true}
 use Rattle.std.specs.Option.{option_map}
-use Rattle.std.specs.List.{AllByRecursion}
-use Rattle.link.specs.declared.refusals.Refusal.{Refusal}
-use Rattle.link.specs.declared.state.Sought.TheVariants.{OfMat}
+use Rattle.std.specs.List.{AllByRecursion, position}
+use Rattle.refusals.specs.declared.Refusal.{Refusal}
 use Rattle.link.specs.Model.{FullRow, Model, find}
 use Rattle.link.specs.Packets.{is_mat_lem}
-use Rattle.link.specs.Rows.{first, fits}
+use Rattle.link.specs.Rows.{counted_of}
 use Rattle.link.specs.Holding.{hold_cause}
+use Rattle.link.proofs.Firsts.{position-cons}
 
 pub unless_refused : {U : Type 0} (b : Bool) (e : Refusal) (x : Result U Refusal) (y : U) → cond b (Err e) x ≡ Ok y → x ≡ Ok y
 unless_refused true e x y h = let z : ◌≡◌ {A = ℕ} 0 1 = cc in absurd (omega arith)
@@ -42,18 +42,18 @@ none_cases false None h = (refl, refl)
 none_cases false (Some j) h = absurd (true≢false h)
 
 -- where a search finds none, none passes
-pub none_passes : {X : Type 0} (P : X → Bool) (xs : List X) → is_some (first P xs) ≡ false → AllByRecursion (λ x. P x ≡ false) xs
+pub none_passes : {X : Type 0} (P : X → Bool) (xs : List X) → is_some (position P xs) ≡ false → AllByRecursion (λ x. P x ≡ false) xs
 none_passes P [] h = tt
-none_passes P (x ∷ xs) h = let q = none_cases (P x) (first P xs) h in (q.0, none_passes P xs q.1)
+none_passes P (x ∷ xs) h = let q = none_cases (P x) (position P xs) (subst (λ o. is_some o ≡ false) (position-cons P x xs) h) in (q.0, none_passes P xs q.1)
 
 -- a hold that comes to the verdict is for a mat that no counted row has
 pub hold_new : {X S : Type 0} (limits : X → ℕ → Bool) (m : Model X S) (mat : ℕ) (k : X) → hold_cause limits m mat k ≡ None →
-    AllByRecursion (λ (r : FullRow X S). fits (OfMat mat) r.entry ≡ false) m.rows
+    AllByRecursion (λ (r : FullRow X S). counted_of mat r.entry ≡ false) m.rows
 hold_new limits m mat k h =
     let a = (unless_cause m.terms.shut _ _ h).1 in
     let b = (else_cause (is_mat_lem mat && limits k m.terms.longest) _ _ a).1 in
-    let c = (unless_cause (is_some (find (OfMat mat) m)) _ _ b).0 in
-    none_passes (λ r. fits (OfMat mat) r.entry) m.rows c
+    let c = (unless_cause (is_some (find (counted_of mat) m)) _ _ b).0 in
+    none_passes (λ r. counted_of mat r.entry) m.rows c
 
 -- and of a kind within its limits
 pub hold_within : {X S : Type 0} (limits : X → ℕ → Bool) (m : Model X S) (mat : ℕ) (k : X) → hold_cause limits m mat k ≡ None → limits k m.terms.longest ≡ true

@@ -1,27 +1,21 @@
 -- Records beside rows: what changes one list changes the joined one.
-use Rattle.std.proofs.Common.{◌≡◌, ℕ, zero, suc, ◌+◌, ◌<◌, ◌≤◌, Bool, true, false, cond, not, List, [], ◌∷◌, ◌++◌, map, length, get_or, take, set, replicate, IfSome, Some, None, Option, Result, sym, refl, ap, ◌∙◌, subst, le_of_suc-le-suc, not-suc-le-zero, arith, length-set}
-use Rattle.std.specs.List.{slice_get}
+use Rattle.std.proofs.Common.{◌≡◌, ℕ, zero, suc, ◌+◌, ◌<◌, ◌≤◌, Bool, true, false, cond, not, List, [], ◌∷◌, ◌++◌, map, length, get_or, take, set, replicate, IfSome, Some, None, Option, sym, refl, ap, ◌∙◌, le_of_suc-le-suc, not-suc-le-zero, arith, length-set}
+use Rattle.std.specs.List.{slice_get, position}
 use Rattle.std.proofs.lemmas.Bool.{true≢false}
 use Rattle.std.specs.Option.{option_map}
 use Rattle.traffic.specs.declared.Curve.{Ghosts as CurveGhosts}
 use Rattle.traffic.specs.declared.Traffic.{Ghosts as TrafficGhosts}
 use Rattle.traffic.specs.declared.Row.{Row}
 use Rattle.pool.specs.Contents.{capacity}
-use Rattle.traffic.specs.Curves.{Numbers}
-use Rattle.verdict.specs.Judged.{Judged}
-use Rattle.verdict.specs.Least.{Least}
-use Rattle.verdict.specs.Stretches.{Stretched}
-use Rattle.verdict.specs.declared.Verdict.{Verdict}
 use Rattle.verdict.specs.Members.{marked, present}
 use Rattle.link.specs.declared.state.Link.{Link}
 use Rattle.link.specs.declared.state.Packet.{Packet}
 use Rattle.link.specs.declared.state.Phase.{Phase}
 use Rattle.link.specs.declared.state.Phase.TheVariants.{Free, Held, Live, Leaving}
 use Rattle.link.specs.declared.state.Record.{Record}
-use Rattle.link.specs.declared.state.Sought.TheVariants.{AnyFree}
-use Rattle.link.specs.Rows.{blank, counts, counted, fits, first, changed}
+use Rattle.link.specs.Rows.{blank, counts, counted, is_free, changed}
 use Rattle.link.specs.Holding.{filled}
-use Rattle.link.proofs.Firsts.{first_passes}
+use Rattle.link.proofs.Firsts.{position-cons, first_passes}
 use Rattle.link.specs.Model.{FullRow, joined, channels, on_entry, on_row, terms_of, opened, Model, model, with_rows}
 
 uncounted : (p : Phase) → not (counts p) ≡ true → p ≡ Free
@@ -35,15 +29,10 @@ module _ {X : Type 0} where
   present_cond true k os = refl
   present_cond false k os = refl
 
-  pub present_more : (os : List (Option X)) (k : X) → present (os ++ Some k ∷ []) ≡ present os ++ k ∷ []
-  present_more [] k = refl
-  present_more (None ∷ os) k = present_more os k
-  present_more (Some x ∷ os) k = ap (λ ks. x ∷ ks) (present_more os k)
-
-  pub present_same : (os : List (Option X)) → present (os ++ None ∷ []) ≡ present os
-  present_same [] = refl
-  present_same (None ∷ os) = present_same os
-  present_same (Some x ∷ os) = ap (λ ks. x ∷ ks) (present_same os)
+  pub present_one_more : (os : List (Option X)) (o : Option X) → present (os ++ o ∷ []) ≡ present os ++ present (o ∷ [])
+  present_one_more [] o = refl
+  present_one_more (None ∷ os) o = present_one_more os o
+  present_one_more (Some x ∷ os) o = ap (λ ks. x ∷ ks) (present_one_more os o)
 
 module _ {X S : Type 0} where
   abbrev full : Record → Row X S → FullRow X S
@@ -60,11 +49,14 @@ module _ {X S : Type 0} where
   joined_length (e ∷ es) [] l = refl
   joined_length (e ∷ es) (w ∷ ws) l = ap suc (joined_length es ws (le_of_suc-le-suc l))
 
-  pub joined_first : (P : Record → Bool) (es : List Record) (ws : List (Row X S)) → first (λ r. P r.entry) (joined es ws) ≡ first P (take (length ws) es)
+  pub joined_first : (P : Record → Bool) (es : List Record) (ws : List (Row X S)) → position (λ r. P r.entry) (joined es ws) ≡ position P (take (length ws) es)
   joined_first P [] [] = refl
   joined_first P [] (w ∷ ws) = refl
   joined_first P (e ∷ es) [] = refl
-  joined_first P (e ∷ es) (w ∷ ws) = ap (λ o. cond (P e) (Some 0) (option_map suc o)) (joined_first P es ws)
+  joined_first P (e ∷ es) (w ∷ ws) =
+      position-cons (λ (r : FullRow X S). P r.entry) (full e w) (joined es ws)
+      ∙ ap (λ o. cond (P e) (Some 0) (option_map suc o)) (joined_first P es ws)
+      ∙ sym (position-cons P e (take (length ws) es))
 
   pub joined_nth : (es : List Record) (ws : List (Row X S)) (i : ℕ) (w : Row X S) (d : Record) → i < length es → slice_get ws i ≡ Some w → slice_get (joined es ws) i ≡ Some (full (get_or es i d) w)
   joined_nth [] ws i w d l h = absurd (not-suc-le-zero l)
@@ -131,32 +123,15 @@ module _ {X S : Type 0} where
       let ws = l.rows.now in
       ap (λ n. placed l n (joined es (set ws i w))) (length-set ws i w) ∙ ap (λ rs. placed l (length ws) rs) (joined_set_row es ws i w)
 
-  -- the channels that the verdict judges are the counted ones with the new one
-  judged_channels : (es : List Record) (ws : List (Row X S)) (bs : List Bool) (k : X) → bs ≡ map counted es →
-      present (marked ws bs ++ Some k ∷ []) ≡ channels (joined es ws) ++ k ∷ []
-  judged_channels es ws bs k e =
-      present_more (marked ws bs) k ∙ ap (λ ks. ks ++ k ∷ []) (ap (λ cs. present (marked ws cs)) e ∙ joined_channels es ws)
-
-  pub judged_link : (numbers : X → Numbers) (limits : X → ℕ → Bool) (p : ℕ) (es : List Record) (ws : List (Row X S)) (bs : List Bool) (k : X) (v : Verdict) →
-      length ws ≤ length es → bs ≡ map counted es → Judged numbers limits p (length ws) (present (marked ws bs ++ Some k ∷ [])) v →
-      Judged numbers limits p (length (joined es ws)) (channels (joined es ws) ++ k ∷ []) v
-  judged_link numbers limits p es ws bs k v le e h =
-      subst (λ (n : ℕ). Judged numbers limits p n (channels (joined es ws) ++ k ∷ []) v) (sym (joined_length es ws le))
-      (subst (λ (ks : List X). Judged numbers limits p (length ws) ks v) (judged_channels es ws bs k e) h)
-
-  pub stretched_link : (numbers : X → Numbers) (limits : X → ℕ → Bool) (p : ℕ) (es : List Record) (ws : List (Row X S)) (bs : List Bool) (r : Result ℕ Verdict) →
-      length ws ≤ length es → bs ≡ map counted es → Stretched numbers limits p (length ws) (present (marked ws bs ++ None ∷ [])) r →
-      Stretched numbers limits p (length (joined es ws)) (channels (joined es ws)) r
-  stretched_link numbers limits p es ws bs r le e h =
-      let same : present (marked ws bs ++ None ∷ []) ≡ channels (joined es ws) = present_same (marked ws bs) ∙ ap (λ cs. present (marked ws cs)) e ∙ joined_channels es ws in
-      subst (λ (n : ℕ). Stretched numbers limits p n (channels (joined es ws)) r) (sym (joined_length es ws le))
-      (subst (λ (ks : List X). Stretched numbers limits p (length ws) ks r) same h)
+  -- also by marks of the counted rows
+  pub marked_channels : (es : List Record) (ws : List (Row X S)) (bs : List Bool) → bs ≡ map counted es → present (marked ws bs) ≡ channels (joined es ws)
+  marked_channels es ws bs e = ap (λ cs. present (marked ws cs)) e ∙ joined_channels es ws
 
   -- a row that a search found free is free, in the model and in the table
-  pub vacant_row : (es : List Record) (ws : List (Row X S)) (i : ℕ) → first (λ r. fits AnyFree r.entry) (joined es ws) ≡ Some i →
+  pub vacant_row : (es : List Record) (ws : List (Row X S)) (i : ℕ) → position (λ r. is_free r.entry) (joined es ws) ≡ Some i →
       (r : FullRow X S) × (slice_get (joined es ws) i ≡ Some r) × (r.entry.phase ≡ Free)
   vacant_row es ws i h =
-      let y = first_passes (λ r. fits AnyFree r.entry) (joined es ws) i h in
+      let y = first_passes (λ r. is_free r.entry) (joined es ws) i h in
       (y.0, y.1, uncounted y.0.entry.phase y.2)
 
   pub joined_entry : (es : List Record) (ws : List (Row X S)) (i : ℕ) (r : FullRow X S) (d : Record) → slice_get (joined es ws) i ≡ Some r → r.entry ≡ get_or es i d
@@ -165,12 +140,12 @@ module _ {X S : Type 0} where
   joined_entry (e ∷ es) (w ∷ ws) zero r d h = let is : full e w ≡ r = cc in ap (λ (q : FullRow X S). q.entry) (sym is)
   joined_entry (e ∷ es) (w ∷ ws) (suc i) r d h = joined_entry es ws i r d h
 
-  pub vacant_found : (es : List Record) (ws : List (Row X S)) (o : Option ℕ) → o ≡ first (λ r. fits AnyFree r.entry) (joined es ws) →
+  pub vacant_found : (es : List Record) (ws : List (Row X S)) (o : Option ℕ) → o ≡ position (λ r. is_free r.entry) (joined es ws) →
       IfSome o (λ i. (r : FullRow X S) × (slice_get (joined es ws) i ≡ Some r) × (r.entry.phase ≡ Free))
   vacant_found es ws None h = tt
   vacant_found es ws (Some i) h = vacant_row es ws i (sym h)
 
-  pub vacant_entry : (es : List Record) (ws : List (Row X S)) (o : Option ℕ) → o ≡ first (λ r. fits AnyFree r.entry) (joined es ws) →
+  pub vacant_entry : (es : List Record) (ws : List (Row X S)) (o : Option ℕ) → o ≡ position (λ r. is_free r.entry) (joined es ws) →
       IfSome o (λ i. (get_or es i blank).phase ≡ Free)
   vacant_entry es ws None h = tt
   vacant_entry es ws (Some i) h =
@@ -186,11 +161,3 @@ module _ {X S : Type 0} where
       ap (λ n. with_serial (placed l n (joined es (set ws i w))) (l.serials + 1)) (length-set ws i w)
       ∙ ap (λ (zs : List Record). with_serial (placed l (length ws) (joined zs (set ws i w))) (l.serials + 1)) e
       ∙ ap (λ rs. with_serial (placed l (length ws) rs) (l.serials + 1)) (joined_set l.table.records ws i _ w)
-
-  pub least_link : (numbers : X → Numbers) (limits : X → ℕ → Bool) (dated : X → ℕ → X) (p : ℕ) (es : List Record) (ws : List (Row X S)) (bs : List Bool) (k : X) (r : Result (ℕ × ℕ) Verdict) →
-      length ws ≤ length es → bs ≡ map counted es → Least numbers limits dated p (length ws) (present (marked ws bs)) k r →
-      Least numbers limits dated p (length (joined es ws)) (channels (joined es ws)) k r
-  least_link numbers limits dated p es ws bs k r le e h =
-      let same : present (marked ws bs) ≡ channels (joined es ws) = ap (λ cs. present (marked ws cs)) e ∙ joined_channels es ws in
-      subst (λ (n : ℕ). Least numbers limits dated p n (channels (joined es ws)) k r) (sym (joined_length es ws le))
-      (subst (λ (ks : List X). Least numbers limits dated p (length ws) ks k r) same h)

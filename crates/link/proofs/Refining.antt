@@ -21,12 +21,11 @@ use Rattle.link.specs.declared.state.Event.{Event}
 use Rattle.link.specs.declared.state.Packet.{Packet}
 use Rattle.link.specs.declared.state.Phase.{Phase}
 use Rattle.link.specs.declared.state.Phase.TheVariants.{Free, Held, Live, Leaving}
-use Rattle.link.specs.declared.state.Sought.TheVariants.{OfMat}
 use Rattle.link.specs.Happenings.{Happening, grants, other, clock_of, allowance_of, dues_of, busy_slots}
 use Rattle.link.specs.Holding.{filled}
 use Rattle.link.specs.Model.{FullRow, Model, channels, with_rows, on_entry}
 use Rattle.link.specs.Packets.{bulk_bytes_lem}
-use Rattle.link.specs.Rows.{counts, counted, fits, is_held, is_live, next, moved, changed}
+use Rattle.link.specs.Rows.{counts, counted, counted_of, is_held, is_live, next, moved, changed}
 use Rattle.link.specs.Sending.{with_bulk}
 use Rattle.link.specs.Settling.{moved_at}
 use Rattle.link.specs.Standing.{Standing}
@@ -194,7 +193,7 @@ module _ {X S : Type 0} (numbers : X → Numbers) where
         row_stays e n i r at_i (ap counts is) (ap (λ x. counts (next x e)) is) (λ h. true≢false (sym h ∙ ap (λ x. is_held (next x e)) is)) (λ h. ap (λ x. sends (next x e)) is) s
 
     -- a row of this mat would be found
-    other_mat : (mat : ℕ) (r : FullRow X S) → fits (OfMat mat) r.entry ≡ false → counted r.entry ≡ true → mat ≡ r.entry.mat → ⊥
+    other_mat : (mat : ℕ) (r : FullRow X S) → counted_of mat r.entry ≡ false → counted r.entry ≡ true → mat ≡ r.entry.mat → ⊥
     other_mat mat r u c e = true≢false (sym (and_from (eqb r.entry.mat mat) (counts r.entry.phase) (eq-eqb r.entry.mat mat (sym e)) c) ∙ u)
 
     module _ (limits : X → ℕ → Bool) (shaped : (k : X) (p : ℕ) → 1 ≤ p → p ≤ 255 → limits k p ≡ true → CurveLaws p (numbers k))
@@ -228,7 +227,7 @@ module _ {X S : Type 0} (numbers : X → Numbers) where
             air = s.air;
             tracks = tracks;
             allowed = all_set (Allowed (grants mat k ∷ hs)) n.rows g.place full (λ c. cond-true (eqb mat mat) _ _ (eq-eqb mat mat refl))
-                (all_zip (Allowed hs) (λ (r : FullRow X S). fits (OfMat mat) r.entry ≡ false) (Allowed (grants mat k ∷ hs))
+                (all_zip (Allowed hs) (λ (r : FullRow X S). counted_of mat r.entry ≡ false) (Allowed (grants mat k ∷ hs))
                 (λ r a u c. cond-false (eqb mat r.entry.mat) _ _ (ne_eqb mat r.entry.mat (other_mat mat r u c)) ∙ a c) n.rows s.allowed g.uncounted);
             packed = All-weaker _ (Packed (grants mat k ∷ hs) (set n.rows g.place full) n.clock n.offers) (λ x h.
                 let differs : mat ≡ x.mat → ⊥ = λ e. any_all (Sender x.mat) n.rows h.3 (All-weaker _ (λ (r : FullRow X S). Sender x.mat r → ⊥) (λ r u b. other_mat mat r u (sends_counts r.entry.phase b.0) (e ∙ sym b.1)) n.rows g.uncounted) in

@@ -1,5 +1,6 @@
 -- One record changed, and whether any row is leaving.
-use Rattle.std.proofs.Common.{◌≡◌, ℕ, zero, suc, Bool, true, false, not, ◌&&◌, ◌||◌, List, [], ◌∷◌, map, get_or, set, sym, refl, ap}
+use Rattle.std.proofs.Common.{◌≡◌, ℕ, zero, suc, ◌≤◌, Bool, true, false, not, ◌&&◌, ◌||◌, List, [], ◌∷◌, ◌++◌, map, length, take, drop, get_or, set, sym, refl, ap, ◌∙◌, take_all}
+use Rattle.std.proofs.lemmas.List.{append-nil, drop_all}
 use Rattle.std.proofs.lemmas.Bool.{true≢false}
 use Rattle.link.specs.declared.state.Record.{Record}
 use Rattle.link.specs.declared.state.Phase.{Phase}
@@ -12,6 +13,10 @@ pub set_changed : {X : Type 0} (f : X → X) (i : ℕ) (xs : List X) (d : X) →
 set_changed f i [] d = refl
 set_changed f zero (x ∷ xs) d = refl
 set_changed f (suc i) (x ∷ xs) d = ap (λ ys. x ∷ ys) (set_changed f i xs d)
+
+-- a loop that changes each in turn has changed all at its end
+pub changed_all : {X : Type 0} (f : X → X) (xs ys : List X) (i : ℕ) → length xs ≤ i → ys ≡ map f (take i xs) ++ drop i xs → ys ≡ map f xs
+changed_all f xs ys i l e = e ∙ rw (take_all i xs l, drop_all i xs l) (append-nil (map f xs))
 
 both : (a b : Bool) → a ≡ true → b ≡ true → (a && b) ≡ true
 both a b p q = rw (p, q)

@@ -3,28 +3,23 @@ use Rattle.std.specs.Prelude.{◌≡◌, ℕ, Bool, true, false, length, Ok, Err
 use Rattle.traffic.specs.Curves.{Numbers}
 use Rattle.verdict.specs.Least.{Least}
 use Rattle.verdict.specs.Stretches.{Stretched}
-use Rattle.verdict.specs.declared.Verdict.{Verdict}
-use Rattle.link.specs.declared.refusals.Refusal.{Refusal}
-use Rattle.link.specs.declared.refusals.Refusal.TheVariants.{Shut}
+use Rattle.verdict.specs.declared.Unfit.{Unfit}
+use Rattle.refusals.specs.declared.Refusal.{Refusal}
+use Rattle.refusals.specs.declared.Refusal.TheVariants.{Shut}
 use Rattle.link.specs.Model.{Model, channels}
-use Rattle.link.specs.Refusals.{decided}
-
--- a verdict that refuses is the link's refusal
-abbrev pub Refuses : {U : Type 0} → Result ℕ Refusal → Result U Refusal → Type 0
-Refuses (Ok count) r = ⊥
-Refuses (Err e) r = r ≡ Err e
+use Rattle.refusals.specs.Refusals.{refusal_of}
 
 -- the verdict's answer is the link's
-abbrev pub Told : {U : Type 0} → Result U Verdict → Result U Refusal → Type 0
+abbrev pub Told : {U : Type 0} → Result U Unfit → Result U Refusal → Type 0
 Told (Ok x) r = r ≡ Ok x
-Told (Err v) r = Refuses (decided v) r
+Told (Err unfit) r = r ≡ Err (refusal_of unfit)
 
 module _ {X S : Type 0} (numbers : X → Numbers) (limits : X → ℕ → Bool) where
   -- a shut link refuses; else the verdict answers
   abbrev pub StretchUnless : Bool → Model X S → Result ℕ Refusal → Type 0
   StretchUnless true m r = r ≡ Err Shut
   StretchUnless false m r =
-      (s : Result ℕ Verdict) × Stretched numbers limits m.terms.longest (length m.rows) (channels m.rows) s × Told s r
+      (s : Result ℕ Unfit) × Stretched numbers limits m.terms.longest (length m.rows) (channels m.rows) s × Told s r
 
   -- stretch: the longest run of slots without a quiet one, over the counted channels
   abbrev pub Stretches : Model X S → Result ℕ Refusal → Type 0
@@ -35,7 +30,7 @@ module _ {X S : Type 0} (numbers : X → Numbers) (limits : X → ℕ → Bool) 
     abbrev pub LeastUnless : Bool → Model X S → X → Result (ℕ × ℕ) Refusal → Type 0
     LeastUnless true m k r = r ≡ Err Shut
     LeastUnless false m k r =
-        (s : Result (ℕ × ℕ) Verdict) × Least numbers limits dated m.terms.longest (length m.rows) (channels m.rows) k s × Told s r
+        (s : Result (ℕ × ℕ) Unfit) × Least numbers limits dated m.terms.longest (length m.rows) (channels m.rows) k s × Told s r
 
     -- least: the least allowance with which the kind passes beside the counted channels, and the point that forbids one slot less
     abbrev pub Leasts : Model X S → X → Result (ℕ × ℕ) Refusal → Type 0

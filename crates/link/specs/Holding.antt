@@ -5,16 +5,16 @@ use Rattle.traffic.specs.Arrivals.{Steps}
 use Rattle.traffic.specs.Curves.{Numbers}
 use Rattle.traffic.specs.declared.Row.{Row}
 use Rattle.verdict.specs.Judged.{Judged}
-use Rattle.verdict.specs.declared.Verdict.{Verdict}
-use Rattle.link.specs.declared.refusals.Refusal.{Refusal}
-use Rattle.link.specs.declared.refusals.Refusal.TheVariants.{Shut, Limits, MatCounted, NoRow}
+use Rattle.verdict.specs.declared.Unfit.{Unfit}
+use Rattle.refusals.specs.declared.Refusal.{Refusal}
+use Rattle.refusals.specs.declared.Refusal.TheVariants.{Shut, Limits, MatCounted, NoRow}
 use Rattle.link.specs.declared.state.Hold.{Hold}
 use Rattle.link.specs.declared.state.Phase.TheVariants.{Free, Held}
-use Rattle.link.specs.declared.state.Sought.TheVariants.{AnyFree, OfMat}
 use Rattle.link.specs.Model.{FullRow, Model, find, channels}
 use Rattle.link.specs.Outcomes.{Refused}
 use Rattle.link.specs.Packets.{is_mat_lem}
-use Rattle.link.specs.Refusals.{decided}
+use Rattle.refusals.specs.Refusals.{decided}
+use Rattle.link.specs.Rows.{is_free, counted_of}
 
 module _ {X S : Type 0} where
   -- the row at this place is free
@@ -37,8 +37,8 @@ module _ {X S : Type 0} where
   hold_cause limits m mat k =
       cond m.terms.shut (Some Shut)
       (cond (is_mat_lem mat && limits k m.terms.longest)
-      (cond (is_some (find (OfMat mat) m)) (Some MatCounted)
-      (cond (is_some (find AnyFree m) && nat_lt m.serials 4294967295) None (Some NoRow)))
+      (cond (is_some (find (counted_of mat) m)) (Some MatCounted)
+      (cond (is_some (find is_free m) && nat_lt m.serials 4294967295) None (Some NoRow)))
       (Some Limits))
 
   module _ (numbers : X → Numbers) (limits : X → ℕ → Bool) (steps : X → Steps S) where
@@ -53,7 +53,7 @@ module _ {X S : Type 0} where
     abbrev pub HeldOr : Option Refusal → Model X S → ℕ → X → Result (Hold × ℕ) Refusal → Model X S → Type 0
     HeldOr (Some e) m mat k r o = Refused e m r o
     HeldOr None m mat k r o =
-        (v : Verdict) × Judged numbers limits m.terms.longest (length m.rows) (channels m.rows ++ k ∷ []) v
+        (v : Result ℕ Unfit) × Judged numbers limits m.terms.longest (length m.rows) (channels m.rows ++ k ∷ []) v
         × Decided (decided v) m mat k r o
 
     -- what hold answers

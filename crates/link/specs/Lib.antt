@@ -2,7 +2,6 @@ pub mod Packets
 pub mod Rows
 pub mod Model
 pub mod Memory
-pub mod Refusals
 pub mod Outcomes
 pub mod Sending
 pub mod Ticking

@@ -1,5 +1,6 @@
 -- What a link holds, apart from how it lies in memory.
 use Rattle.std.specs.Prelude.{ℕ, Bool, cond, not, ◌&&◌, List, [], ◌∷◌, map, length, take, None, Option, nat_le}
+use Rattle.std.specs.List.{position}
 use Rattle.traffic.specs.declared.Curve.{Ghosts as CurveGhosts}
 use Rattle.traffic.specs.declared.Traffic.{Ghosts as TrafficGhosts}
 use Rattle.traffic.specs.declared.Row.{Row}
@@ -9,8 +10,7 @@ use Rattle.link.specs.declared.state.Bulk.{Bulk}
 use Rattle.link.specs.declared.state.Link.{Link}
 use Rattle.link.specs.declared.state.Packet.{Packet}
 use Rattle.link.specs.declared.state.Record.{Record}
-use Rattle.link.specs.declared.state.Sought.{Sought}
-use Rattle.link.specs.Rows.{blank, counted, fits, first}
+use Rattle.link.specs.Rows.{blank, counted}
 
 -- what opening settles for good: the link's name, its longest packet in slots, the places of its waiting list, and whether it is shut
 pub record Terms : Type 0 where
@@ -96,9 +96,9 @@ module _ {X S : Type 0} where
   abbrev pub on_row : Row X S → FullRow X S → FullRow X S
   on_row w r = record r { row = w }
 
-  -- the place of the row looked for
-  abbrev pub find : Sought → Model X S → Option ℕ
-  find sought m = first (λ r. fits sought r.entry) m.rows
+  -- the place of the first row whose record passes a test
+  abbrev pub find : (Record → Bool) → Model X S → Option ℕ
+  find P m = position (λ r. P r.entry) m.rows
 
   -- the kinds of the counted rows
   abbrev pub channels : List (FullRow X S) → List X

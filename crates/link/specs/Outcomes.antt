@@ -1,6 +1,6 @@
 -- The form of an answer: granted with what the link then holds, or refused with all as before.
 use Rattle.std.specs.Prelude.{◌≡◌, Ok, Err, Result}
-use Rattle.link.specs.declared.refusals.Refusal.{Refusal}
+use Rattle.refusals.specs.declared.Refusal.{Refusal}
 use Rattle.link.specs.Model.{Model}
 
 module _ {X S : Type 0} where

@@ -1,5 +1,6 @@
 -- Packets: their length in slots, the limits of their bytes, the order in which they wait, and what a slot sends of them.
 use Rattle.std.specs.Prelude.{ℕ, ◌+◌, ◌*◌, ◌/◌, min, Bool, cond, ◌&&◌, ◌||◌, Some, None, Option, ◌==◌, nat_le, nat_lt}
+use Rattle.std.specs.Option.{option_map}
 use Rattle.link.specs.declared.state.Packet.{Packet}
 use Rattle.link.specs.declared.state.Bulk.{Bulk}
 use Rattle.link.specs.declared.state.Air.{Air}
@@ -34,10 +35,13 @@ packet_before x y =
 abbrev pub begun : Packet → Air
 begun p = record { mat = p.mat; place = p.place; bytes = p.bytes; sent = 0 }
 
--- the bulk packet as it goes on the air, if there is one: its mat is 0
+-- a bulk packet as it goes on the air: its mat is 0
+abbrev pub begun_file : Bulk → Air
+begun_file b = record { mat = 0; place = b.place; bytes = b.bytes; sent = 0 }
+
+-- the bulk packet that waits, if there is one
 abbrev pub begun_bulk : Option Bulk → Option Air
-begun_bulk None = None
-begun_bulk (Some b) = Some (record { mat = 0; place = b.place; bytes = b.bytes; sent = 0 })
+begun_bulk b = option_map begun_file b
 
 -- the slot sent next is the packet's last
 abbrev pub ends : Air → Bool

@@ -1,8 +1,8 @@
 -- What piece answers: the bytes that the last granted tick carried.
 use Rattle.std.specs.Prelude.{◌≡◌, ℕ, ◌+◌, ◌-◌, cond, List, length, take, drop, Some, None, Ok, Err, Option, Result, ◌==◌, nat_le}
 use Rattle.std.specs.Borrow.{Bor}
-use Rattle.link.specs.declared.refusals.Refusal.{Refusal}
-use Rattle.link.specs.declared.refusals.Refusal.TheVariants.{Shut, NothingCarried, BeyondMemory}
+use Rattle.refusals.specs.declared.Refusal.{Refusal}
+use Rattle.refusals.specs.declared.Refusal.TheVariants.{Shut, NothingCarried, BeyondMemory}
 use Rattle.link.specs.declared.state.Air.{Air}
 use Rattle.link.specs.Model.{Model}
 use Rattle.link.specs.Packets.{carried}

@@ -7,14 +7,14 @@ use Rattle.verdict.specs.Demand.{works, bursts}
 use Rattle.verdict.specs.Least.{beside}
 use Rattle.verdict.specs.Stretches.{stretch_of}
 use Rattle.schedule.specs.Arrivals.{Unschedulable}
-use Rattle.link.specs.declared.refusals.Refusal.{Refusal}
+use Rattle.refusals.specs.declared.Refusal.{Refusal}
 use Rattle.link.specs.declared.state.Hold.{Hold}
 use Rattle.link.specs.Asking.{Leasts}
 use Rattle.link.specs.Happenings.{Happening, happenings, clock_of, dues_of, ends_of, busy_slots}
 use Rattle.link.specs.History.{Call, History}
 use Rattle.link.specs.Holding.{Holds, hold_cause}
 use Rattle.link.specs.Model.{Model, channels}
-use Rattle.link.specs.Refusals.{answered}
+use Rattle.refusals.specs.Refusals.{answered}
 use Rattle.link.specs.Standing.{Standing}
 
 module _ {X : Type 0} (numbers : X → Numbers) where

@@ -1,13 +1,10 @@
 -- The rows: their phases, what moves them, and how one is found.
-use Rattle.std.specs.Prelude.{ℕ, zero, suc, Bool, true, false, cond, not, ◌&&◌, List, [], ◌∷◌, Some, None, Option, ◌==◌}
-use Rattle.std.specs.Option.{option_map}
+use Rattle.std.specs.Prelude.{ℕ, zero, suc, Bool, true, false, not, ◌&&◌, List, [], ◌∷◌, ◌==◌}
 use Rattle.link.specs.declared.state.Record.{Record}
 use Rattle.link.specs.declared.state.Phase.{Phase}
 use Rattle.link.specs.declared.state.Phase.TheVariants.{Free, Held, Live, Leaving}
 use Rattle.link.specs.declared.state.Event.{Event}
 use Rattle.link.specs.declared.state.Event.TheVariants.{Hold, Confirm, Cancel, Release, Quiet}
-use Rattle.link.specs.declared.state.Sought.{Sought}
-use Rattle.link.specs.declared.state.Sought.TheVariants.{AnyFree, OfMat, OfHold}
 
 -- a row at the opening
 abbrev pub blank : Record
@@ -38,7 +35,7 @@ next Leaving Quiet = Free
 
 -- a record moved by an event
 abbrev pub moved : Event → Record → Record
-moved e r = record { mat = r.mat; serial = r.serial; phase = next r.phase e }
+moved e r = record r { phase = next r.phase e }
 
 -- all but free rows are counted
 abbrev pub counts : Phase → Bool
@@ -79,11 +76,15 @@ is_leaving Leaving = true
 abbrev pub counted : Record → Bool
 counted r = counts r.phase
 
--- the row looked for: a free one; the counted one of a mat; the held one with a hold's numbers
-abbrev pub fits : Sought → Record → Bool
-fits AnyFree r = not (counts r.phase)
-fits (OfMat mat) r = r.mat == mat && counts r.phase
-fits (OfHold mat serial) r = r.mat == mat && (r.serial == serial && is_held r.phase)
+-- what a row is looked for by: that it is free; that it is the counted one of a mat; that it is the held one with a hold's numbers
+abbrev pub is_free : Record → Bool
+is_free r = not (counts r.phase)
+
+abbrev pub counted_of : ℕ → Record → Bool
+counted_of mat r = r.mat == mat && counts r.phase
+
+abbrev pub held_of : ℕ → ℕ → Record → Bool
+held_of mat serial r = r.mat == mat && (r.serial == serial && is_held r.phase)
 
 -- a release is what makes a row leave
 abbrev pub releases : Event → Bool
@@ -98,11 +99,6 @@ abbrev pub changed : {X : Type 0} → (X → X) → ℕ → List X → List X
 changed f i [] = []
 changed f zero (x ∷ xs) = f x ∷ xs
 changed f (suc i) (x ∷ xs) = x ∷ changed f i xs
-
--- the place of the first that passes a test
-abbrev pub first : {X : Type 0} → (X → Bool) → List X → Option ℕ
-first P [] = None
-first P (x ∷ xs) = cond (P x) (Some 0) (option_map suc (first P xs))
 
 -- no row is leaving, so that a quiet slot has none to free
 abbrev pub none_leaving : List Record → Bool

@@ -6,15 +6,14 @@ use Rattle.std.specs.List.Sorted.{IsPermutation}
 use Rattle.traffic.specs.Arrivals.{Steps}
 use Rattle.traffic.specs.Curves.{Numbers}
 use Rattle.traffic.specs.declared.Row.{Row}
-use Rattle.link.specs.declared.refusals.Refusal.{Refusal}
-use Rattle.link.specs.declared.refusals.Refusal.TheVariants.{Shut, Limits, NoSuchRow, Unlawful, Full}
+use Rattle.refusals.specs.declared.Refusal.{Refusal}
+use Rattle.refusals.specs.declared.Refusal.TheVariants.{Shut, Limits, NoSuchRow, Unlawful, Full}
 use Rattle.link.specs.declared.state.Bulk.{Bulk}
 use Rattle.link.specs.declared.state.Packet.{Packet}
-use Rattle.link.specs.declared.state.Sought.TheVariants.{OfMat}
 use Rattle.link.specs.Model.{FullRow, Model, find, with_rows, on_row}
 use Rattle.link.specs.Outcomes.{Refused, Answered}
 use Rattle.link.specs.Packets.{slots, offer_bytes_lem, bulk_bytes_lem, is_mat_lem}
-use Rattle.link.specs.Rows.{changed, is_live}
+use Rattle.link.specs.Rows.{counted_of, changed, is_live}
 
 module _ {X S : Type 0} where
   -- one more accepted packet, with this waiting list
@@ -53,7 +52,7 @@ module _ {X S : Type 0} where
     abbrev pub offer_outcome : Model X S → ℕ → ℕ → ℕ → Result (ℕ × Row X S × Packet) Refusal
     offer_outcome m mat place bytes =
         cond m.terms.shut (Err Shut)
-        (cond (is_mat_lem mat && offer_bytes_lem bytes) (offer_place m mat place bytes (find (OfMat mat) m)) (Err Limits))
+        (cond (is_mat_lem mat && offer_bytes_lem bytes) (offer_place m mat place bytes (find (counted_of mat) m)) (Err Limits))
 
   -- accepted: the row has stepped and the packet waits, wherever it lies in the bag
   abbrev pub Offered : Result (ℕ × Row X S × Packet) Refusal → Model X S → Result (Unit {0}) Refusal → Model X S → Type 0

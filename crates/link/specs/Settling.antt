@@ -1,16 +1,15 @@
 -- What confirm, cancel and release answer, and what the link then holds.
 use Rattle.std.specs.Prelude.{◌≡◌, ℕ, cond, Some, None, Ok, Err, Option, Result, ◌==◌}
 use Rattle.std.specs.List.{slice_get}
-use Rattle.link.specs.declared.refusals.Refusal.{Refusal}
-use Rattle.link.specs.declared.refusals.Refusal.TheVariants.{Shut, Limits, NoSuchRow}
+use Rattle.refusals.specs.declared.Refusal.{Refusal}
+use Rattle.refusals.specs.declared.Refusal.TheVariants.{Shut, Limits, NoSuchRow}
 use Rattle.link.specs.declared.state.Event.{Event}
 use Rattle.link.specs.declared.state.Event.TheVariants.{Confirm, Cancel, Release}
 use Rattle.link.specs.declared.state.Hold.{Hold}
-use Rattle.link.specs.declared.state.Sought.TheVariants.{OfMat, OfHold}
 use Rattle.link.specs.Model.{FullRow, Model, find, with_rows, on_entry}
 use Rattle.link.specs.Outcomes.{Answered}
 use Rattle.link.specs.Packets.{is_mat_lem}
-use Rattle.link.specs.Rows.{changed, moved, may_release_lem}
+use Rattle.link.specs.Rows.{counted_of, held_of, changed, moved, may_release_lem}
 
 module _ {X S : Type 0} where
   -- the row at a place moved by an event
@@ -26,7 +25,7 @@ module _ {X S : Type 0} where
   abbrev pub settled : Event → Hold → Model X S → Result (Model X S) Refusal
   settled e h m =
       cond m.terms.shut (Err Shut)
-      (cond (h.link == m.terms.name) (settled_at e m (find (OfHold h.mat h.serial) m)) (Err NoSuchRow))
+      (cond (h.link == m.terms.name) (settled_at e m (find (held_of h.mat h.serial) m)) (Err NoSuchRow))
 
   -- a refused confirm gives the hold back
   abbrev pub GivenBack : Hold → Result (Model X S) Refusal → Model X S → Result (Unit {0}) (Refusal × Hold) → Model X S → Type 0
@@ -54,7 +53,7 @@ module _ {X S : Type 0} where
   -- the smallest cause, or what is granted
   abbrev pub release_outcome : Model X S → ℕ → Result (Model X S) Refusal
   release_outcome m mat =
-      cond m.terms.shut (Err Shut) (cond (is_mat_lem mat) (release_place m (find (OfMat mat) m)) (Err Limits))
+      cond m.terms.shut (Err Shut) (cond (is_mat_lem mat) (release_place m (find (counted_of mat) m)) (Err Limits))
 
   -- what release answers
   abbrev pub Releases : Model X S → ℕ → Result (Unit {0}) Refusal → Model X S → Type 0

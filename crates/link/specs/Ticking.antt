@@ -3,8 +3,8 @@ use Rattle.std.specs.Prelude.{◌≡◌, ◌+◌, cond, ◌⊎◌, List, [], ◌
 use Rattle.std.specs.Option.{option_map}
 use Rattle.std.specs.List.Sorted.{IsPermutation}
 use Rattle.pool.specs.Elements.{First}
-use Rattle.link.specs.declared.refusals.Refusal.{Refusal}
-use Rattle.link.specs.declared.refusals.Refusal.TheVariants.{Shut, ClockEnd}
+use Rattle.refusals.specs.declared.Refusal.{Refusal}
+use Rattle.refusals.specs.declared.Refusal.TheVariants.{Shut, ClockEnd}
 use Rattle.link.specs.declared.state.Air.{Air}
 use Rattle.link.specs.declared.state.Event.TheVariants.{Quiet}
 use Rattle.link.specs.declared.state.Packet.{Packet}

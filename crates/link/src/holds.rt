@@ -8,8 +8,8 @@ ghost use Rattle.link.specs.Joining.{Joined};
 ghost use Rattle.link.specs.Settling.{Confirms, Cancels, Releases};
 
 use crate::packets::is_mat;
-use crate::refusals::{Refusal, decided, refused};
-use crate::state::{Event, Hold, Link, Mat, Sought};
+use crate::state::{Event, Hold, Link, Mat};
+use refusals::Refusal;
 use traffic::{Row, Traffic};
 
 impl<'a, K: Traffic> Link<'a, K> {
@@ -19,22 +19,18 @@ impl<'a, K: Traffic> Link<'a, K> {
         ensures kept { Kept result self.old self.new }
         ensures lent { RowsOnly self.old self.new }
     {
-        if self.shut() {
-            return Err(Refusal::Shut);
-        }
+        self.opened()?;
         if !is_mat(mat) || !kind.within(self.longest) {
             return Err(Refusal::Limits);
         }
-        if let Some(_) = self.find(Sought::OfMat { mat }) {
+        if self.row_of(mat).is_some() {
             return Err(Refusal::MatCounted);
         }
-        let Some(i) = self.vacant() else {
-            return Err(Refusal::NoRow);
-        };
+        let i = self.vacant().ok_or(Refusal::NoRow)?;
         if self.serials == u32::MAX {
             return Err(Refusal::NoRow);
         }
-        let count = decided(self.judged(kind))?;
+        let count = self.judged(kind)?;
         let state = kind.fresh();
         let hold = self.fill(i, mat, Row { kind, state });
         Ok((hold, count))
@@ -52,11 +48,7 @@ impl<'a, K: Traffic> Link<'a, K> {
         if hold.link != self.name {
             return Err((Refusal::NoSuchRow, hold));
         }
-        let sought = Sought::OfHold {
-            mat: hold.mat,
-            serial: hold.serial,
-        };
-        let Some(i) = self.find(sought) else {
+        let Some(i) = self.row_held(hold.mat, hold.serial) else {
             return Err((Refusal::NoSuchRow, hold));
         };
         let Hold {
@@ -88,15 +80,11 @@ impl<'a, K: Traffic> Link<'a, K> {
         ensures lent { NothingLent self.old self.new }
     {
         let Hold { link, mat, serial } = hold;
-        if self.shut() {
-            return Err(Refusal::Shut);
-        }
+        self.opened()?;
         if link != self.name {
             return Err(Refusal::NoSuchRow);
         }
-        let Some(i) = self.find(Sought::OfHold { mat, serial }) else {
-            return Err(Refusal::NoSuchRow);
-        };
+        let i = self.row_held(mat, serial).ok_or(Refusal::NoSuchRow)?;
         self.meet(i, Event::Cancel);
         Ok(())
     }
@@ -107,15 +95,11 @@ impl<'a, K: Traffic> Link<'a, K> {
         ensures kept { Kept result self.old self.new }
         ensures lent { NothingLent self.old self.new }
     {
-        if self.shut() {
-            return Err(Refusal::Shut);
-        }
+        self.opened()?;
         if !is_mat(mat) {
             return Err(Refusal::Limits);
         }
-        let Some(i) = self.find(Sought::OfMat { mat }) else {
-            return Err(Refusal::NoSuchRow);
-        };
+        let i = self.row_of(mat).ok_or(Refusal::NoSuchRow)?;
         let (record, _) = self.at(i);
         if !record.phase.may_release() {
             return Err(Refusal::NoSuchRow);
@@ -128,25 +112,15 @@ impl<'a, K: Traffic> Link<'a, K> {
     pub fn stretch(&self) -> Result<u64, Refusal>
         ensures { Stretches K.Curve.numbers K.Curve.limits (model self.now) result }
     {
-        if self.shut() {
-            return Err(Refusal::Shut);
-        }
-        match self.stretched() {
-            Ok(slots) => Ok(slots),
-            Err(verdict) => Err(refused(verdict)),
-        }
+        self.opened()?;
+        Ok(self.stretched()?)
     }
 
     // The least allowance with which the kind would be granted, whatever it declares, and the point that forbids one slot less (0 if none does).
     pub fn least(&self, kind: K) -> Result<(u32, u32), Refusal>
         ensures { Leasts K.Curve.numbers K.Curve.limits K.Curve.dated (model self.now) kind result }
     {
-        if self.shut() {
-            return Err(Refusal::Shut);
-        }
-        match self.shortest(kind) {
-            Ok(least) => Ok(least),
-            Err(verdict) => Err(refused(verdict)),
-        }
+        self.opened()?;
+        Ok(self.shortest(kind)?)
     }
 }

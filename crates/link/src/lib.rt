@@ -3,7 +3,6 @@
 
 mod holds;
 mod packets;
-pub mod refusals;
 mod rows;
 mod sender;
 pub mod state;

@@ -1,24 +1,24 @@
 // Packets: their length in slots, and the limits of their bytes.
 ghost use Rattle.std.specs.Prelude.{◌≡◌, ℕ, ◌+◌, ◌≤◌};
-ghost use Rattle.link.specs.Packets.{slots, offer_bytes_lem, bulk_bytes_lem, is_mat_lem, carried, begun, told, after};
+ghost use Rattle.link.specs.Packets.{slots, offer_bytes_lem, bulk_bytes_lem, is_mat_lem, carried, begun, begun_file, told, after};
 ghost use Rattle.link.specs.Pieces.{piece_in, seen};
 
-use crate::refusals::Refusal;
-use crate::state::{Air, Mat, Packet, Sent};
+use crate::state::{Air, Bulk, Mat, Packet, Sent};
+use refusals::Refusal;
 
 // How many slots a packet of so many bytes takes.
 pub(crate) fn slots(bytes: u16) -> u32
     ensures is { result ≡ slots bytes }
     ensures bound { result ≤ 2048 }
 {
-    (u32::from(bytes) + 31) / 32
+    u32::from(bytes).div_ceil(32)
 }
 
 // Whether an offer may have so many bytes.
 pub(crate) fn offer_bytes(bytes: u32) -> bool
     ensures { result ≡ offer_bytes_lem bytes }
 {
-    1 <= bytes && bytes <= 8160
+    (1..=8160).contains(&bytes)
 }
 
 // Whether a bulk packet may have so many bytes on a link whose longest packet has so many slots.
@@ -26,7 +26,7 @@ pub(crate) fn bulk_bytes(longest: u32, bytes: u32) -> bool
     requires { longest ≤ 255 }
     ensures { result ≡ bulk_bytes_lem longest bytes }
 {
-    1 <= bytes && bytes <= 32 * longest
+    (1..=32 * longest).contains(&bytes)
 }
 
 // Whether the number is a mat's: 0 is none.
@@ -41,23 +41,32 @@ fn carried(bytes: u16, slots: usize) -> usize
     requires { slots ≤ 65536 }
     ensures { result ≡ carried bytes slots }
 {
-    let bytes = usize::from(bytes);
-    if bytes < 32 * slots {
-        bytes
-    } else {
-        32 * slots
+    usize::from(bytes).min(32 * slots)
+}
+
+// The packet as it goes on the air.
+impl From<Packet> for Air {
+    ghost from_gives = { λ packet air. air ≡ begun packet };
+
+    fn from(packet: Packet) -> Air {
+        Air {
+            mat: packet.mat,
+            place: packet.place,
+            bytes: packet.bytes,
+            sent: 0,
+        }
     }
 }
 
-impl Packet {
-    // The packet as it goes on the air.
-    pub(crate) fn begun(&self) -> Air
-        ensures { result ≡ begun self.now }
-    {
+// The bulk packet as it goes on the air, of mat 0.
+impl From<Bulk> for Air {
+    ghost from_gives = { λ bulk air. air ≡ begun_file bulk };
+
+    fn from(bulk: Bulk) -> Air {
         Air {
-            mat: self.mat,
-            place: self.place,
-            bytes: self.bytes,
+            mat: 0,
+            place: bulk.place,
+            bytes: bulk.bytes,
             sent: 0,
         }
     }
@@ -79,10 +88,8 @@ impl Air {
             return (sent, None);
         }
         let rest = Air {
-            mat: self.mat,
-            place: self.place,
-            bytes: self.bytes,
             sent: self.sent + 1,
+            ..*self
         };
         (sent, Some(rest))
     }

@@ -1,20 +1,22 @@
 // The link's rows, and its opening.
-ghost use Rattle.std.specs.Prelude.{◌≡◌, ℕ, ◌+◌, ◌<◌, ◌≤◌, Bool, true, false, [], ◌∷◌, ◌++◌, length, IfSome, Some, slice_index_or};
+ghost use Rattle.std.specs.Prelude.{◌≡◌, ℕ, ◌+◌, ◌<◌, ◌≤◌, Bool, true, false, [], ◌∷◌, ◌++◌, length, IfSome, Some, Ok, Err, map, if◌then◌else◌, slice_index_or};
 ghost use Rattle.std.specs.List.{slice_get};
 ghost use Rattle.verdict.specs.Judged.{Judged};
 ghost use Rattle.verdict.specs.Least.{Least};
+ghost use Rattle.verdict.specs.Members.{members, present, rows_counted, size};
 ghost use Rattle.verdict.specs.Stretches.{Stretched};
 ghost use Rattle.link.specs.Holding.{Vacant, hold_of, filled};
 ghost use Rattle.link.specs.Model.{model, opened, find, channels, with_rows, on_entry, on_row};
 ghost use Rattle.link.specs.Memory.{NothingLent, RowsOnly};
 ghost use Rattle.link.specs.Promise.{Promise};
-ghost use Rattle.link.specs.Rows.{blank, changed, moved};
+ghost use Rattle.link.specs.Rows.{blank, changed, counted as counted_lem, moved, is_free, counted_of, held_of};
 
-use crate::state::{Event, Hold, Link, Mat, Packet, Phase, Record, Sought, Table};
+use crate::state::{Event, Hold, Link, Mat, Packet, Phase, Record, Table};
 use pool::Pool;
+use refusals::Refusal;
 use traffic::{Row, Traffic};
-use verdict::Verdict;
 use verdict::channels::Channels;
+use verdict::{Unfit, Verdict};
 
 impl<'a, K: Traffic> Link<'a, K> {
     // A link whose longest packet has `longest` slots, over memory that its owner lends: 1 to 32 rows and 1 to 256 places for waiting packets.
@@ -70,23 +72,35 @@ impl<'a, K: Traffic> Link<'a, K> {
     pub fn shut(&self) -> bool
         ensures { result ≡ (model self.now).terms.shut }
     {
-        let rows = self.rows.len();
-        let places = self.waiting.capacity();
-        !(1 <= self.longest
-            && self.longest <= 255
-            && 1 <= rows
-            && rows <= 32
-            && 1 <= places
-            && places <= 256)
+        !((1..=255).contains(&self.longest)
+            && (1..=32).contains(&self.rows.len())
+            && (1..=256).contains(&self.waiting.capacity()))
     }
 
-    // The place of the row looked for.
-    pub(crate) fn find(&self, sought: Sought) -> Option<usize>
-        requires { (model self.now).terms.shut ≡ false }
-        ensures found { result ≡ find sought (model self.now) }
+    // Refuses where the link is shut.
+    pub(crate) fn opened(&self) -> Result<(), Refusal>
+        ensures { result ≡ (if (model self.now).terms.shut then Err Refusal.Shut else Ok tt) }
+    {
+        if self.shut() {
+            return Err(Refusal::Shut);
+        }
+        Ok(())
+    }
+
+    // The place of the counted row of a mat.
+    pub(crate) fn row_of(&self, mat: Mat) -> Option<usize>
+        ensures found { result ≡ find (counted_of mat) (model self.now) }
         ensures within { IfSome result (λ i. (i < 32) × (i < length self.now.rows.now)) }
     {
-        self.table.find(sought, self.rows.len())
+        self.table.counted_of(mat, self.rows.len())
+    }
+
+    // The place of the held row of a hold.
+    pub(crate) fn row_held(&self, mat: Mat, serial: u32) -> Option<usize>
+        ensures found { result ≡ find (held_of mat serial) (model self.now) }
+        ensures within { IfSome result (λ i. (i < 32) × (i < length self.now.rows.now)) }
+    {
+        self.table.held_of(mat, serial, self.rows.len())
     }
 
     // A copy of the row at a place that a search found.
@@ -100,13 +114,12 @@ impl<'a, K: Traffic> Link<'a, K> {
 
     // The place of a free row, whichever.
     pub(crate) fn vacant(&self) -> Option<usize>
-        requires { (model self.now).terms.shut ≡ false }
-        ensures found { result ≡ find Sought.AnyFree (model self.now) }
+        ensures found { result ≡ find is_free (model self.now) }
         ensures within { IfSome result (λ i. (i < 32) × (i < length self.now.rows.now)) }
         ensures vacant { IfSome result (Vacant (model self.now)) }
         ensures free { IfSome result (λ i. (slice_index_or self.now.table.records i blank).phase ≡ Phase.Free) }
     {
-        self.find(Sought::AnyFree)
+        self.table.free(self.rows.len())
     }
 
     // Moves the row at a place by an event.
@@ -147,48 +160,45 @@ impl<'a, K: Traffic> Link<'a, K> {
         }
     }
 
+    // The counted channels, by these marks of the counted rows, and one more or none.
+    fn channels<'b>(&'b self, counted: &'b [bool], more: Option<K>) -> Channels<'b, K, K::State>
+        requires open { (model self.now).terms.shut ≡ false }
+        requires marks { counted.now ≡ map counted_lem self.now.table.records }
+        ensures size { size result ≡ length (model self.now).rows }
+        ensures rows { rows_counted result ≡ channels (model self.now).rows }
+        ensures more { members result ≡ channels (model self.now).rows ++ present (more ∷ []) }
+    {
+        Channels {
+            rows: self.rows,
+            counted,
+            more,
+        }
+    }
+
     // What the verdict says of the counted channels with one more.
     pub(crate) fn judged(&self, kind: K) -> Verdict
         requires { (model self.now).terms.shut ≡ false }
         ensures { Judged K.Curve.numbers K.Curve.limits self.now.longest (length (model self.now).rows) (channels (model self.now).rows ++ kind ∷ []) result }
     {
         let counted = self.table.counted();
-        let rows = &*self.rows;
-        let channels = Channels {
-            rows,
-            counted: &counted,
-            more: Some(kind),
-        };
-        channels.judge(self.longest)
+        self.channels(&counted, Some(kind)).judge(self.longest)
     }
 
     // The stretch of the counted channels.
-    pub(crate) fn stretched(&self) -> Result<u64, Verdict>
+    pub(crate) fn stretched(&self) -> Result<u64, Unfit>
         requires { (model self.now).terms.shut ≡ false }
         ensures { Stretched K.Curve.numbers K.Curve.limits self.now.longest (length (model self.now).rows) (channels (model self.now).rows) result }
     {
         let counted = self.table.counted();
-        let rows = &*self.rows;
-        let channels = Channels {
-            rows,
-            counted: &counted,
-            more: None,
-        };
-        channels.stretch(self.longest)
+        self.channels(&counted, None).stretch(self.longest)
     }
 
     // The least allowance of a kind beside the counted channels.
-    pub(crate) fn shortest(&self, kind: K) -> Result<(u32, u32), Verdict>
+    pub(crate) fn shortest(&self, kind: K) -> Result<(u32, u32), Unfit>
         requires { (model self.now).terms.shut ≡ false }
         ensures { Least K.Curve.numbers K.Curve.limits K.Curve.dated self.now.longest (length (model self.now).rows) (channels (model self.now).rows) kind result }
     {
         let counted = self.table.counted();
-        let rows = &*self.rows;
-        let channels = Channels {
-            rows,
-            counted: &counted,
-            more: None,
-        };
-        channels.least(kind, self.longest)
+        self.channels(&counted, None).least(kind, self.longest)
     }
 }

@@ -11,8 +11,8 @@ ghost use Rattle.link.specs.Sending.{admitted, queued, Offers, Bulks};
 ghost use Rattle.link.specs.Ticking.{Begins, quiet, passed, Ticks};
 
 use crate::packets::{bulk_bytes, is_mat, offer_bytes, slots};
-use crate::refusals::Refusal;
-use crate::state::{Air, Bulk, Link, Mat, Packet, Sent, Sought};
+use crate::state::{Air, Bulk, Link, Mat, Packet, Phase, Sent};
+use refusals::Refusal;
 use traffic::{Row, Traffic};
 
 // The row after its kind's step, and when the packet is due; none if the kind does not take it. The step is made on a copy.
@@ -63,23 +63,19 @@ impl<'a, K: Traffic> Link<'a, K> {
         ensures kept { Kept result self.old self.new }
         ensures lent { RowsAndWaiting self.old self.new }
     {
-        if self.shut() {
-            return Err(Refusal::Shut);
-        }
+        self.opened()?;
         if !is_mat(mat) || !offer_bytes(bytes) {
             return Err(Refusal::Limits);
         }
-        let Some(i) = self.find(Sought::OfMat { mat }) else {
-            return Err(Refusal::NoSuchRow);
-        };
+        let i = self.row_of(mat).ok_or(Refusal::NoSuchRow)?;
         let (record, row) = self.at(i);
-        if !record.phase.is_live() {
+        if record.phase != Phase::Live {
             return Err(Refusal::NoSuchRow);
         }
         let bytes = bytes as u16;
-        let Some((stepped, due)) = admitted(row, self.longest, self.clock, slots(bytes)) else {
-            return Err(Refusal::Unlawful);
-        };
+        let (stepped, due) = admitted(row, self.longest, self.clock, slots(bytes)).ok_or(
+            Refusal::Unlawful,
+        )?;
         if self.full() {
             return Err(Refusal::Full);
         }
@@ -100,13 +96,11 @@ impl<'a, K: Traffic> Link<'a, K> {
         ensures kept { Kept result self.old self.new }
         ensures lent { NothingLent self.old self.new }
     {
-        if self.shut() {
-            return Err(Refusal::Shut);
-        }
+        self.opened()?;
         if !bulk_bytes(self.longest, bytes) {
             return Err(Refusal::Limits);
         }
-        if let Some(_) = self.bulk {
+        if self.bulk.is_some() {
             return Err(Refusal::Full);
         }
         self.bulk = Some(Bulk {
@@ -122,9 +116,7 @@ impl<'a, K: Traffic> Link<'a, K> {
         ensures kept { Kept result self.old self.new }
         ensures lent { WaitingOnly self.old self.new }
     {
-        if self.shut() {
-            return Err(Refusal::Shut);
-        }
+        self.opened()?;
         if self.clock >= 2_000_000_000 {
             return Err(Refusal::ClockEnd);
         }
@@ -136,12 +128,8 @@ impl<'a, K: Traffic> Link<'a, K> {
     pub fn piece<'b>(&self, mats: &'b [u8], files: &'b [u8]) -> Result<&'b [u8], Refusal>
         ensures { Pieces (model self.now) mats.now files.now (seen result) }
     {
-        if self.shut() {
-            return Err(Refusal::Shut);
-        }
-        let Some(last) = self.last else {
-            return Err(Refusal::NothingCarried);
-        };
+        self.opened()?;
+        let last = self.last.ok_or(Refusal::NothingCarried)?;
         if last.mat == 0 {
             return last.piece(files);
         }
@@ -154,7 +142,7 @@ impl<'a, K: Traffic> Link<'a, K> {
         ensures clock { self.new.clock ≡ self.old.clock }
         ensures lent { WaitingOnly self.old self.new }
     {
-        if let Some(_) = self.air {
+        if self.air.is_some() {
             return;
         }
         if self.waiting.is_empty() {
@@ -172,9 +160,7 @@ impl<'a, K: Traffic> Link<'a, K> {
         ensures clock { self.new.clock ≡ self.old.clock }
         ensures lent { WaitingOnly self.old self.new }
     {
-        if let Some(packet) = self.waiting.take() {
-            self.air = Some(packet.begun());
-        }
+        self.air = self.waiting.take().map(Air::from);
     }
 
     // A quiet slot: leaving rows become free, and the bulk packet goes on the air.
@@ -185,15 +171,7 @@ impl<'a, K: Traffic> Link<'a, K> {
         ensures lent { NothingLent self.old self.new }
     {
         self.table.rest();
-        if let Some(bulk) = self.bulk {
-            self.air = Some(Air {
-                mat: 0,
-                place: bulk.place,
-                bytes: bulk.bytes,
-                sent: 0,
-            });
-            self.bulk = None;
-        }
+        self.air = self.bulk.take().map(Air::from);
     }
 
     // The clock rises by one, and what is on the air sends one slot more.

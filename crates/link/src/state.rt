@@ -1,7 +1,5 @@
 // What a link is made of.
 ghost use Rattle.std.specs.Prelude.{◌≡◌, ℕ, ◌+◌, ◌≤◌, Bool, true, false, ◌||◌, length};
-ghost use Rattle.pool.specs.Contents.{capacity};
-ghost use Rattle.pool.specs.Heap.{Heap};
 ghost use Rattle.link.specs.Packets.{packet_before, on_air};
 ghost use Rattle.link.specs.Rows.{none_leaving};
 ghost use Rattle.std.proofs.Common.{rules};
@@ -28,14 +26,6 @@ pub(crate) enum Event {
     Cancel,
     Release,
     Quiet,
-}
-
-// What a row is looked for by.
-#[derive(Clone, Copy)]
-pub(crate) enum Sought {
-    AnyFree,
-    OfMat { mat: Mat },
-    OfHold { mat: Mat, serial: u32 },
 }
 
 // A row's mat, the serial of its hold, and its phase.
@@ -95,13 +85,7 @@ impl Ordered for Packet {
     ghost transitive = { Prim.search rules };
 
     fn precedes(&self, other: &Packet) -> bool {
-        if self.due != other.due {
-            return self.due < other.due;
-        }
-        if self.mat != other.mat {
-            return self.mat < other.mat;
-        }
-        self.count < other.count
+        (self.due, self.mat, self.count) < (other.due, other.mat, other.count)
     }
 }
 
@@ -131,8 +115,6 @@ pub struct Link<'a, K: Traffic> {
     pub(crate) air: Option<Air>,
     // what the last tick carried
     pub(crate) last: Option<Air>,
-    ghost fits: { waiting.count ≤ capacity waiting },
-    ghost heap: { Heap packet_before waiting.places.now waiting.count },
     ghost early: { clock ≤ 2000000000 },
     ghost counted: { offers ≤ clock + waiting.count + on_air air },
 }

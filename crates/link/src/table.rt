@@ -1,46 +1,23 @@
 // The table of the rows' records.
 ghost use Rattle.std.specs.Prelude.{◌≡◌, ℕ, ◌+◌, ◌<◌, ◌≤◌, Bool, true, false, ◌||◌, map, length, take, replicate, MatchOption, slice_index_or, slice_set};
-ghost use Rattle.link.specs.Rows.{blank, counts, counted, is_held, is_live, may_release_lem, fits, first, changed, moved, next, releases, none_leaving};
+ghost use Rattle.std.specs.List.{position};
+ghost use Rattle.link.specs.Rows.{blank, counts, counted, may_release_lem, is_free, counted_of, held_of, changed, moved, releases, none_leaving};
 
-use crate::state::{Event, Mat, Phase, Record, Sought, Table};
+use crate::state::{Event, Mat, Phase, Record, Table};
 
 impl Phase {
     // Whether a row in this phase is counted.
     pub(crate) fn counts(&self) -> bool
         ensures { result ≡ counts self.now }
     {
-        match self {
-            Phase::Free => false,
-            _ => true,
-        }
-    }
-
-    pub(crate) fn is_held(&self) -> bool
-        ensures { result ≡ is_held self.now }
-    {
-        match self {
-            Phase::Held => true,
-            _ => false,
-        }
-    }
-
-    pub(crate) fn is_live(&self) -> bool
-        ensures { result ≡ is_live self.now }
-    {
-        match self {
-            Phase::Live => true,
-            _ => false,
-        }
+        !matches!(self, Phase::Free)
     }
 
     // Whether a row in this phase can be released.
     pub(crate) fn may_release(&self) -> bool
         ensures { result ≡ may_release_lem self.now }
     {
-        match self {
-            Phase::Held | Phase::Live => true,
-            _ => false,
-        }
+        matches!(self, Phase::Held | Phase::Live)
     }
 }
 
@@ -58,40 +35,6 @@ impl Record {
             (Phase::Leaving, Event::Quiet) => Phase::Free,
             (same, _) => same,
         };
-    }
-
-    // Whether this is the row looked for.
-    fn fits(&self, sought: Sought) -> bool
-        ensures { result ≡ fits sought self.now }
-    {
-        match sought {
-            Sought::AnyFree => !self.phase.counts(),
-            Sought::OfMat { mat } => self.mat == mat && self.phase.counts(),
-            Sought::OfHold { mat, serial } => self.mat == mat
-                && self.serial == serial
-                && self.phase.is_held(),
-        }
-    }
-}
-
-impl Event {
-    // Whether the event can make a row leave.
-    fn releases(&self) -> bool
-        ensures { result ≡ releases self.now }
-    {
-        match self {
-            Event::Release => true,
-            _ => false,
-        }
-    }
-}
-
-// Moves every row by the event.
-fn meet_all(records: &mut [Record], event: Event)
-    ensures { records.new ≡ map (moved event) records.old }
-{
-    for record in records.iter_mut() {
-        record.meet(event);
     }
 }
 
@@ -111,35 +54,35 @@ impl Table {
         }
     }
 
-    // The place of the first of the first n rows that is looked for.
-    pub(crate) fn find(&self, sought: Sought, n: usize) -> Option<usize>
-        requires { n ≤ 32 }
-        ensures { result ≡ first (fits sought) (take n self.now.records) }
+    // The place of the first free row of the first n.
+    pub(crate) fn free(&self, n: usize) -> Option<usize>
+        ensures { result ≡ position is_free (take n self.now.records) }
     {
-        for i in 0..n {
-            if self.records[i].fits(sought) {
-                return Some(i);
-            }
-        }
-        None
+        let mut rows = self.records.iter().take(n);
+        rows.position(|row| !row.phase.counts())
+    }
+
+    // The place of the counted row of a mat among the first n.
+    pub(crate) fn counted_of(&self, mat: Mat, n: usize) -> Option<usize>
+        ensures { result ≡ position (counted_of mat) (take n self.now.records) }
+    {
+        let mut rows = self.records.iter().take(n);
+        rows.position(|row| row.mat == mat && row.phase.counts())
+    }
+
+    // The place of the held row of a hold among the first n.
+    pub(crate) fn held_of(&self, mat: Mat, serial: u32, n: usize) -> Option<usize>
+        ensures { result ≡ position (held_of mat serial) (take n self.now.records) }
+    {
+        let mut rows = self.records.iter().take(n);
+        rows.position(|row| row.mat == mat && row.serial == serial && row.phase == Phase::Held)
     }
 
     // Which rows are counted.
     pub(crate) fn counted(&self) -> [bool; 32]
         ensures { result ≡ map counted self.now.records }
     {
-        let mut marks = [false; 32];
-        for i in 0..32 {
-            marks[i] = self.records[i].phase.counts();
-        }
-        marks
-    }
-
-    // Whether a row may be leaving after this event.
-    fn may_leave(&self, event: Event) -> bool
-        ensures { result ≡ (self.now.leaving || releases event) }
-    {
-        self.leaving || event.releases()
+        self.records.map(|record| record.phase.counts())
     }
 
     // Moves one row, whose record is lent to be changed.
@@ -147,7 +90,7 @@ impl Table {
         requires { i < 32 }
         ensures { self.new.records ≡ changed (moved event) i self.old.records }
     {
-        self.leaving = self.may_leave(event);
+        self.leaving |= event == Event::Release;
         let record = &mut self.records[i];
         record.meet(event);
     }
@@ -169,7 +112,9 @@ impl Table {
         ensures { self.new.records ≡ map (moved Event.Quiet) self.old.records }
     {
         if self.leaving {
-            meet_all(&mut self.records, Event::Quiet);
+            for record in &mut self.records {
+                record.meet(Event::Quiet);
+            }
             self.leaving = false;
         }
     }

@@ -1,5 +1,5 @@
 // A release: the row counts until the first quiet slot, and only then another mat gets its share.
-use link::refusals::Refusal;
+use refusals::Refusal;
 use link::state::{Link, Mat, Packet};
 use std::io;
 use traffic::spaced::Spaced;

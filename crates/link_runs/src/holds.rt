@@ -1,6 +1,6 @@
 // Holds that no held row has: of another link, stale, of a released row.
 use crate::course::{blank, number, spaced};
-use link::refusals::Refusal;
+use refusals::Refusal;
 use link::state::{Hold, Link, Mat};
 use std::io;
 use traffic::Row;
