@@ -24,13 +24,7 @@ impl Ordered for Packet {
     ghost transitive = { Prim.search rules };
 
     fn precedes(&self, other: &Packet) -> bool {
-        if self.due != other.due {
-            return self.due < other.due;
-        }
-        if self.mat != other.mat {
-            return self.mat < other.mat;
-        }
-        self.count < other.count
+        (self.due, self.mat, self.count) < (other.due, other.mat, other.count)
     }
 }
 
