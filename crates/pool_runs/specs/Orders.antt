@@ -3,7 +3,7 @@ use Rattle.std.specs.Prelude.{Bool, ◌&&◌, ◌||◌, ◌==◌, nat_lt}
 use Rattle.pool_runs.specs.declared.packet.Packet.{Packet}
 use Rattle.pool_runs.specs.declared.point.Point.{Point}
 
--- by due slot, then mat, then offer count; where a packet lies and how long it is do not count
+-- by due slot, then mat, then offer count; where a packet lies does not count
 abbrev pub packet_before : Packet → Packet → Bool
 packet_before x y =
     nat_lt x.due y.due || (x.due == y.due && (nat_lt x.mat y.mat || (x.mat == y.mat && nat_lt x.count y.count)))

@@ -34,10 +34,10 @@ pub fn drain<T: Ordered>(pool: &mut Pool<T>, out: &mut [T]) -> usize
     ensures order { IsSortedWithin T.Ordered.before out.new 0 result }
     ensures all { IsPermutation (contents pool.old) (take result out.new) }
 {
-    let mut n = 0;
-    while let Some(x) = pool.take() {
-        out[n] = x;
-        n += 1;
+    let count = pool.len();
+    for place in out.iter_mut() {
+        let Some(first) = pool.take() else { break };
+        *place = first;
     }
-    n
+    count
 }

@@ -6,14 +6,13 @@ use crate::drain::Sample;
 use pool::Ordered;
 use std::fmt;
 
-// Where its bytes lie and how many there are stand outside the order.
+// Where its bytes lie stands outside the order. The link has a packet of its own, which this crate does not know: it shows the pool alone.
 #[derive(Clone, Copy)]
 pub struct Packet {
     pub due: u32,
     pub mat: u8,
     pub count: u32,
     pub place: u32,
-    pub bytes: u16,
 }
 
 impl Ordered for Packet {
@@ -36,16 +35,12 @@ impl Sample for Packet {
             mat: (n % 3) as u8,
             count: n % 2,
             place: n,
-            bytes: i % 100,
         }
     }
 }
 
 impl fmt::Display for Packet {
     fn fmt<W: fmt::Write>(&self, f: &mut fmt::Formatter<W>) -> fmt::Result {
-        let due = self.due;
-        let mat = self.mat;
-        let count = self.count;
-        write!(f, "{due}.{mat}.{count}")
+        write!(f, "{}.{}.{}", self.due, self.mat, self.count)
     }
 }

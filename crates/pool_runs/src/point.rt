@@ -36,8 +36,6 @@ impl Sample for Point {
 
 impl fmt::Display for Point {
     fn fmt<W: fmt::Write>(&self, f: &mut fmt::Formatter<W>) -> fmt::Result {
-        let t = self.t;
-        let row = self.row;
-        write!(f, "{t}.{row}")
+        write!(f, "{}.{}", self.t, self.row)
     }
 }
