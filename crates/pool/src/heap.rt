@@ -54,9 +54,7 @@ fn rise<T: Ordered>(s: &mut [T])
     let mut i = s.len() - 1;
     while i > 0 {
         let up = parent(i);
-        let mine = s[i];
-        let over = s[up];
-        if !mine.precedes(&over) {
+        if !s[i].precedes(&s[up]) {
             return;
         }
         s.swap(up, i);
@@ -73,9 +71,7 @@ fn sink<T: Ordered>(s: &mut [T])
     let mut i = 0;
     while i < s.len() / 2 {
         let child = first_child(s, i);
-        let under = s[child];
-        let mine = s[i];
-        if !under.precedes(&mine) {
+        if !s[child].precedes(&s[i]) {
             return;
         }
         s.swap(i, child);
@@ -99,10 +95,10 @@ fn first_child<T: Ordered>(s: &[T], i: usize) -> usize
     ensures best { Best T.Ordered.before s.now i result (length s.now) }
 {
     let left = i * 2 + 1;
-    if s.len() - left == 1 {
-        return left;
+    let right = left + 1;
+    if right < s.len() && s[right].precedes(&s[left]) {
+        right
+    } else {
+        left
     }
-    let one = s[left + 1];
-    let other = s[left];
-    if one.precedes(&other) { left + 1 } else { left }
 }

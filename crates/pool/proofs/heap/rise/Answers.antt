@@ -12,11 +12,14 @@ loop-i-preserved g c =
     let near = c.parent-up.ensures in
     let law = g.met.T.Ordered in
     let before = g.T.Ordered.before in
-    let less : before c.index-s-i.result c.index-s-up.result ≡ true = cc in (
-      omega arith,
-      IsPermutation-trans _ _ _ c.loop-i.invariant.1 c.swap.ensures.permutation,
-      rise_steps before law.asymmetric law.transitive xs c.swap.new.self up i (length c.args.s.now) near.above near.near (omega arith)
+    let less : before c.index-s-i.result c.index-s-up.result ≡ true = cc in
+    record {
+      long = omega arith;
+      within = omega arith;
+      bag = IsPermutation-trans _ _ _ c.loop-i.invariant.bag c.swap.ensures.permutation;
+      rising =
+          rise_steps before law.asymmetric law.transitive xs c.swap.new.self up i (length c.args.s.now) near.above near.near (omega arith)
           (c.swap.ensures.by_index.0, c.swap.ensures.by_index.1, c.swap.ensures.by_index.2)
           (pair_read xs (λ a b. before a b ≡ true) i up c.index-s-i.result c.index-s-up.result (omega arith) (omega arith) c.index-s-i.is c.index-s-up.is less)
-          c.loop-i.invariant.2,
-    )
+          c.loop-i.invariant.rising;
+    }

@@ -12,14 +12,17 @@ loop-i-preserved g c =
     let told = c.first_child-child.ensures in
     let law = g.met.T.Ordered in
     let before = g.T.Ordered.before in
-    let less : before c.index-s-child.result c.index-s-i.result ≡ true = cc in (
-      IsPermutation-trans _ _ _ c.loop-i.invariant.0 c.swap.ensures.permutation,
-      sink_steps before law.asymmetric law.transitive xs c.swap.new.self i child (length c.args.s.now) told.within.0 told.within.1 (omega arith)
+    let less : before c.index-s-child.result c.index-s-i.result ≡ true = cc in
+    record {
+      long = omega arith;
+      bag = IsPermutation-trans _ _ _ c.loop-i.invariant.bag c.swap.ensures.permutation;
+      sinking =
+          sink_steps before law.asymmetric law.transitive xs c.swap.new.self i child (length c.args.s.now) told.within.0 told.within.1 (omega arith)
           (c.swap.ensures.by_index.0, c.swap.ensures.by_index.1, c.swap.ensures.by_index.2)
           (pair_read xs (λ a b. before a b ≡ true) child i c.index-s-child.result c.index-s-i.result (omega arith) (omega arith) c.index-s-child.is c.index-s-i.is less)
           (λ k d g' l b. told.best k d g' l (omega arith))
-          c.loop-i.invariant.1,
-    )
+          c.loop-i.invariant.sinking;
+    }
 
 pub returns-then-not-precedes : goal.returns-then-not-precedes
 returns-then-not-precedes g c =
@@ -35,6 +38,6 @@ returns-then-not-precedes g c =
           sink_rests before law.asymmetric law.transitive xs i child (length c.args.s.now)
           (pair_read xs (λ a b. before a b ≡ false) child i c.index-s-child.result c.index-s-i.result (omega arith) (omega arith) c.index-s-child.is c.index-s-i.is fine)
           (λ k d g' l b. told.best k d g' l (omega arith))
-          c.loop-i.invariant.1;
-      bag = c.loop-i.invariant.0;
+          c.loop-i.invariant.sinking;
+      bag = c.loop-i.invariant.bag;
     }
