@@ -1,15 +1,13 @@
 -- For callers: what stays true of each element over `put` and `take`, and which element is taken.
-use Rattle.std.proofs.Common.{◌≡◌, Bool, true, false, [], ◌∷◌, length, take, Some, None, Ok, Err, Option, Result, sym, ap, ◌∙◌, subst, ⊎_elim}
+use Rattle.std.proofs.Common.{◌≡◌, Bool, false, [], ◌∷◌, length, take, Some, None, Ok, Err, Option, Result, sym, ap, subst}
 use Rattle.std.specs.List.{All}
 use Rattle.std.proofs.lemmas.List.{length-take-le}
 use Rattle.std.proofs.lemmas.List.Elements.{All-cons, All-head, All-tail}
 use Rattle.std.proofs.lemmas.List.Sorted.{All-permutation}
-use Rattle.std.proofs.lemmas.Bool.{cases_Bool}
 use Rattle.pool.specs.declared.Ordered.{Ghosts as OrderedGhosts}
 use Rattle.pool.specs.declared.Pool.{Pool}
 use Rattle.pool.specs.Contents.{contents, Put, Taken}
 use Rattle.pool.specs.Elements.{First}
-use Rattle.pool.proofs.Orders.{Asymmetric, Transitive}
 
 -- there are as many elements as the count says
 pub contents_length : {X : Type 0} {o : OrderedGhosts X} (p : Pool X o) → length (contents p) ≡ p.count
@@ -45,8 +43,3 @@ module _ {X : Type 0} {o : OrderedGhosts X} where
     -- nor does any of the rest
     pub rest_after_taken : (p q : Pool X o) (x : X) → Taken before p q (Some x) → First before x (contents q)
     rest_after_taken p q x h = each_after_take (λ y. before y x ≡ false) before p q (Some x) h h.2
-
--- going before is transitive
-pub before_transitive : {X : Type 0} (before : X → X → Bool) → Asymmetric before → Transitive before → (x y z : X) → before x y ≡ true → before y z ≡ true → before x z ≡ true
-before_transitive before asym trans x y z xy yz =
-    ⊎_elim (λ t. t) (λ f. f ∙ (sym (trans y z x (asym y z yz) f) ∙ xy)) (cases_Bool (before x z))
