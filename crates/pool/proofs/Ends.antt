@@ -1,12 +1,13 @@
--- What `insert` and `remove_first` hand to `rise` and `sink` is nearly a heap, and what comes back is one.
-use Rattle.std.proofs.Common.{◌≡◌, ℕ, ◌≤◌, ◌<◌, Bool, List, get_or, arith}
+-- What `insert` and `remove_first` hand to `rise` and `sink` is nearly a heap.
+use Rattle.std.proofs.Common.{ℕ, Bool, List, ◌-◌, length, take, set, arith}
+use Rattle.std.proofs.lemmas.List.{places, length-set, get_or-set_other}
 use Rattle.pool.specs.Heap.{Heap, Sinking}
 
-module _ {X : Type 0} (before : X → X → Bool) (xs ys : List X) (n m : ℕ) where
-  -- the first m elements are those of a heap
-  pub heap_kept : m ≤ n → ((k : ℕ) (d : X) → k < m → get_or ys k d ≡ get_or xs k d) → Heap before xs n → Heap before ys m
-  heap_kept mn same h p k d g l b = grind (arith, same p d, same k d, h p k d)
+module _ {X : Type 0} (before : X → X → Bool) (xs : List X) (x : X) where
+  pub last_written : Heap before xs (length xs - 1) → Heap before (set xs (length xs - 1) x) (length (set xs (length xs - 1) x) - 1)
+  last_written h p k d l b s =
+      let last : ℕ = length xs - 1 in
+      grind (arith, length-set xs last x, get_or-set_other xs last p x d, get_or-set_other xs last k x d, h p k d)
 
-  -- the same but for the element in place 0
-  pub below_root : m ≤ n → ((k : ℕ) (d : X) → 0 < k → k < m → get_or ys k d ≡ get_or xs k d) → Heap before xs n → Sinking before ys 0 m
-  below_root mn same h = (λ p k d g l b pn. grind (arith, same p d, same k d, h p k d), λ p k d g l g' l' b. absurd (omega arith))
+  pub root_written : Heap before xs (length xs) → Sinking before (take (length xs - 1) (set xs 0 x)) 0 (length (take (length xs - 1) (set xs 0 x)))
+  root_written h = (λ p k d l b s n. grind (arith, places, h p k d), λ p k d l b l' b' s. absurd (omega arith))

@@ -23,7 +23,7 @@ pub trait Ordered: Copy {
     ghost transitive: { (x y z : Self) → before y x ≡ false → before z y ≡ false → before z x ≡ false };
 }
 
-// The elements lie in the first `count` places, as a heap.
+// The elements lie in the first `count` places, as a heap. The places are lent, since the pool has no memory of its own.
 #[derive(Drop)]
 pub struct Pool<'a, T: Ordered> {
     places: &'a mut [T],

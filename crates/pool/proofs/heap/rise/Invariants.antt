@@ -8,7 +8,7 @@ invariant-loop-i g l = record {
   long : length l.s ≡ length l.initial.s;
   within : l.i < length l.s;
   bag : IsPermutation l.initial.s l.s;
-  rising : Rising g.T.Ordered.before l.s l.i (length l.initial.s)
+  rising : Rising g.T.Ordered.before l.s l.i (length l.initial.s);
 }
 
 abbrev pub decreases-loop-i : goal.decreases-loop-i

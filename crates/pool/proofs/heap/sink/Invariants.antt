@@ -7,7 +7,7 @@ abbrev pub invariant-loop-i : goal.invariant-loop-i
 invariant-loop-i g l = record {
   long : length l.s ≡ length l.initial.s;
   bag : IsPermutation l.initial.s l.s;
-  sinking : Sinking g.T.Ordered.before l.s l.i (length l.initial.s)
+  sinking : Sinking g.T.Ordered.before l.s l.i (length l.initial.s);
 }
 
 abbrev pub decreases-loop-i : goal.decreases-loop-i
