@@ -21,3 +21,5 @@ read_back_from_read bytes (Err (Malformed sec num)) h s fits short spelled =
     (λ stop. stop.1.stops s fits (ap (take (suc stop.1.i)) (cut_spelled bytes s fits spelled)))
     h
 read_back_from_read bytes (Err NoMemory) h s fits short spelled = tt
+
+pub ruleset laws = (written_again_from_read, read_back_from_read)

@@ -41,6 +41,7 @@ impl Entry for Longest {
 
     ghost mats = { λ _. [] };
 
+    #[tactic(auto, using(crate::proofs::Listed::by_elements))]
     fn pick(letter: char, numbers: &[u32]) -> Option<Longest> {
         match (letter, numbers) {
             ('P', [slots]) => Some(Longest { slots: *slots }),
@@ -54,6 +55,7 @@ impl Entry for Channel {
 
     ghost mats = { channel_mats };
 
+    #[tactic(auto, using(crate::proofs::Listed::by_elements))]
     fn pick(letter: char, numbers: &[u32]) -> Option<Channel> {
         match (letter, numbers) {
             ('S', [m, period, longest, allowance]) => Some(Channel {
@@ -83,6 +85,7 @@ impl Entry for Call {
 
     ghost mats = { call_mats };
 
+    #[tactic(auto, using(crate::proofs::Listed::by_elements))]
     fn pick(letter: char, numbers: &[u32]) -> Option<Call> {
         match (letter, numbers) {
             ('O', [m, bytes]) => Some(Call::Offer {

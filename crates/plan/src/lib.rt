@@ -70,6 +70,7 @@ impl<T: Drop> From<AllocFailed<T>> for Fault {
 }
 
 // The plan that the text writes, or the first line at which the text stops being the beginning of a plan.
+#[tactic(auto, using(crate::proofs::Laws::laws))]
 pub fn read(heap: Global, text: &[u8]) -> Result<Plan, Fault>
     ensures answered { Read text.now result }
     ensures written_again { WrittenAgain text.now result }
