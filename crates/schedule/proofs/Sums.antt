@@ -1,21 +1,12 @@
 -- Sums over lists, and what holds of some or of each element.
-use Rattle.std.proofs.Common.{◌≡◌, ℕ, ◌+◌, ◌<◌, ◌≤◌, ◌⊎◌, List, [], ◌∷◌, ◌++◌, map, sum_by, sym, refl, ap, ◌∙◌, inl, inr, arith}
+use Rattle.std.proofs.Common.{◌≡◌, ℕ, ◌+◌, ◌<◌, ◌≤◌, ◌⊎◌, List, [], ◌∷◌, ◌++◌, map, refl, ap, inl, inr, arith}
 use Rattle.std.specs.List.{AllByRecursion}
-use Rattle.std.specs.List.Sorted.{IsPermutation}
-use Rattle.std.proofs.lemmas.List.Sums.{sum_by-cons}
-use Rattle.std.proofs.lemmas.List.Sorted.{sum_by-IsPermutation}
 use Rattle.std.proofs.lemmas.Bool.{cases_lt}
 use Rattle.verdict.specs.Demand.{total}
 use Rattle.schedule.specs.Schedules.{Any}
+pub use Rattle.verdict.proofs.Sweeping.{total-shuffled}
 
 -- Sums.
-
-total-sum_by : {X : Type 0} (f : X → ℕ) (xs : List X) → total f xs ≡ sum_by f xs
-total-sum_by f [] = refl
-total-sum_by f (x ∷ xs) = omega (arith, sum_by-cons f x xs, total-sum_by f xs)
-
-pub total-shuffled : {X : Type 0} (f : X → ℕ) (xs ys : List X) → IsPermutation xs ys → total f ys ≡ total f xs
-total-shuffled f xs ys h = total-sum_by f ys ∙ sum_by-IsPermutation f xs ys h ∙ sym (total-sum_by f xs)
 
 pub total-map : {X Y : Type 0} (g : X → Y) (f : Y → ℕ) (xs : List X) → total f (map g xs) ≡ total (λ x. f (g x)) xs
 total-map g f [] = refl
