@@ -1,6 +1,6 @@
 -- What a call makes of a link: every history is a chain of these few changes.
-use Rattle.std.proofs.Common.{◌≡◌, ℕ, ◌+◌, ◌≤◌, Bool, true, false, cond, ◌&&◌, eqb, List, [], ◌∷◌, ◌++◌, length, Some, None, Ok, Err, Option, Result, sym, refl, ap, ◌∙◌, subst, arith}
-use Rattle.std.proofs.lemmas.Bool.{true≢false, and_parts, leb-true}
+use Rattle.std.proofs.Common.{◌≡◌, ℕ, ◌+◌, ◌≤◌, Bool, true, false, cond, ◌&&◌, eqb, List, [], ◌∷◌, ◌++◌, length, Some, None, Ok, Err, Option, Result, sym, refl, ap, ◌∙◌, subst}
+use Rattle.std.proofs.lemmas.Bool.{and_parts, leb-true}
 use Rattle.std.specs.List.{slice_get, AllByRecursion}
 use Rattle.std.specs.Option.{option_map}
 use Rattle.std.specs.List.Sorted.{IsPermutation}
@@ -20,7 +20,7 @@ use Rattle.link.specs.declared.state.Event.TheVariants.{Confirm, Cancel, Release
 use Rattle.link.specs.declared.state.Hold.{Hold}
 use Rattle.link.specs.declared.state.Packet.{Packet}
 use Rattle.link.specs.declared.state.Phase.{Phase}
-use Rattle.link.specs.declared.state.Phase.TheVariants.{Free, Held, Live, Leaving}
+use Rattle.link.specs.declared.state.Phase.TheVariants.{Held, Live}
 use Rattle.link.specs.declared.state.Sent.{Sent}
 use Rattle.link.specs.Happenings.{Happening, grants, accepts, passes, other, happening, happenings}
 use Rattle.link.specs.History.{Call, held, offered, ticked, History, opening, hold, confirm, cancel, release, offer, bulk, tick, stretch, least, piece}
@@ -44,22 +44,17 @@ pub data Moves : Event → Phase → Type 0 where
   leaves : Moves Release Live
 
 held_confirms : (p : Phase) → is_held p ≡ true → Moves Confirm p
-held_confirms Free h = absurd (true≢false (sym h))
 held_confirms Held h = confirms
-held_confirms Live h = absurd (true≢false (sym h))
-held_confirms Leaving h = absurd (true≢false (sym h))
+held_confirms p h = cc
 
 held_cancels : (p : Phase) → is_held p ≡ true → Moves Cancel p
-held_cancels Free h = absurd (true≢false (sym h))
 held_cancels Held h = cancels
-held_cancels Live h = absurd (true≢false (sym h))
-held_cancels Leaving h = absurd (true≢false (sym h))
+held_cancels p h = cc
 
 may_move : (p : Phase) → may_release_lem p ≡ true → Moves Release p
-may_move Free h = absurd (true≢false (sym h))
 may_move Held h = frees
 may_move Live h = leaves
-may_move Leaving h = absurd (true≢false (sym h))
+may_move p h = cc
 
 module _ {X S : Type 0} (numbers : X → Numbers) (limits : X → ℕ → Bool) (steps : X → Steps S) where
   -- a channel is counted, in a free row
@@ -102,14 +97,14 @@ module _ {X S : Type 0} (numbers : X → Numbers) (limits : X → ℕ → Bool) 
 
   stepped : (d : ℕ) (v w : Row X S) (due : ℕ) (o : Option S) → option_map {U = Row X S × ℕ} (λ s. (record { kind = v.kind; state = s }, d)) o ≡ Some (w, due) →
       (s : S) × (o ≡ Some s) × (record { kind = v.kind; state = s } ≡ w) × (d ≡ due)
-  stepped d v w due None h = let z : ◌≡◌ {A = ℕ} 0 1 = cc in absurd (omega arith)
+  stepped d v w due None h = cc
   stepped d v w due (Some s) h =
       let same = some_same {U = Row X S × ℕ} (record { kind = v.kind; state = s }, d) (w, due) h in
       (s, refl, ap (λ (x : Row X S × ℕ). x.0) same, ap (λ (x : Row X S × ℕ). x.1) same)
 
   admitted_some : (b : Bool) (o : Option (Row X S × ℕ)) (w : Row X S) (due : ℕ) → cond b o None ≡ Some (w, due) → o ≡ Some (w, due)
   admitted_some true o w due h = h
-  admitted_some false o w due h = let z : ◌≡◌ {A = ℕ} 0 1 = cc in absurd (omega arith)
+  admitted_some false o w due h = cc
 
   packet : Model X S → ℕ → ℕ → ℕ → ℕ → Packet
   packet m due mat place bytes = record { due = due; mat = mat; count = m.offers; place = place; bytes = bytes }
@@ -118,7 +113,7 @@ module _ {X S : Type 0} (numbers : X → Numbers) (limits : X → ℕ → Bool) 
       offer_admitted numbers limits steps m mat place bytes i o ≡ Ok (j, w, p) →
       (i ≡ j) × ((due : ℕ) × (o ≡ Some (w, due)) × (packet m due mat place bytes ≡ p))
   unfolding packet
-  offer_admits m mat place bytes i None j w p h = let z : ◌≡◌ {A = ℕ} 0 1 = cc in absurd (omega arith)
+  offer_admits m mat place bytes i None j w p h = cc
   offer_admits m mat place bytes i (Some (v, due)) j w p h =
       let q = unless_refused (eqb (length m.waiting) m.terms.places) _ _ _ h in
       let same = ok_same {U = ℕ × Row X S × Packet} (i, v, packet m due mat place bytes) (j, w, p) q in
@@ -140,7 +135,7 @@ module _ {X S : Type 0} (numbers : X → Numbers) (limits : X → ℕ → Bool) 
   cond_ok false x y u n h = absurd (n h)
 
   err_ok : {U : Type 0} (e : Refusal) (u : U) → ◌≡◌ {A = Result U Refusal} (Err e) (Ok u) → ⊥
-  err_ok e u h = let z : ◌≡◌ {A = ℕ} 0 1 = cc in omega arith
+  err_ok e u h = cc
 
   offer_at : (m : Model X S) (mat place bytes i : ℕ) (r : FullRow X S) (j : ℕ) (w : Row X S) (p : Packet) → slice_get m.rows i ≡ Some r → counted_of mat r.entry ≡ true →
       offer_row numbers limits steps m mat place bytes i (Some r) ≡ Ok (j, w, p) → Admits m mat place bytes j w p

@@ -1,6 +1,5 @@
 -- The confirm right after a granted hold is granted.
-use Rattle.std.proofs.Common.{◌≡◌, ℕ, zero, suc, ◌+◌, Bool, true, false, cond, eqb, List, [], ◌∷◌, set, Some, None, Ok, Err, Option, Result, sym, refl, ap, ◌∙◌, subst, arith, eq-eqb}
-use Rattle.std.proofs.lemmas.Bool.{true≢false}
+use Rattle.std.proofs.Common.{◌≡◌, ℕ, zero, suc, ◌+◌, Bool, true, false, cond, eqb, List, [], ◌∷◌, set, Some, None, Ok, Err, Option, Result, refl, ap, ◌∙◌, subst, eq-eqb}
 use Rattle.std.specs.List.{slice_get, position}
 use Rattle.std.specs.Option.{option_map}
 use Rattle.traffic.specs.Arrivals.{Steps}
@@ -23,7 +22,7 @@ found_later false o j h = (suc j, ap (option_map suc) h)
 
 -- a list that was given something that passes the test has a first that does
 first_set : {U : Type 0} (P : U → Bool) (xs : List U) (i : ℕ) (x q : U) → slice_get xs i ≡ Some x → P q ≡ true → (j : ℕ) × (position P (set xs i q) ≡ Some j)
-first_set P [] i x q h t = let z : ◌≡◌ {A = ℕ} 0 1 = cc in absurd (omega arith)
+first_set P [] i x q h t = cc
 first_set P (y ∷ xs) zero x q h t = (0, position-cons P q xs ∙ rw t)
 first_set P (y ∷ xs) (suc i) x q h t =
     let rest = first_set P xs i x q h t in
@@ -45,10 +44,10 @@ module _ {X S : Type 0} where
   -- a confirm whose row is found is granted
   given : (h : Hold) (b d : Bool) (e e' : Refusal) (x : Result (Model X S) Refusal) (n m : Model X S) (r : Result (Unit {0}) (Refusal × Hold)) (o : Model X S) →
       b ≡ false → d ≡ true → x ≡ Ok n → GivenBack h (cond b (Err e) (cond d x (Err e'))) m r o → r ≡ Ok tt
-  given h true d e e' x n m r o p q is g = absurd (true≢false p)
-  given h false false e e' x n m r o p q is g = absurd (true≢false (sym q))
+  given h true d e e' x n m r o p q is g = cc
+  given h false false e e' x n m r o p q is g = cc
   given h false true e e' (Ok y) n m r o p q is g = g.0
-  given h false true e e' (Err c) n m r o p q is g = let z : ◌≡◌ {A = ℕ} 0 1 = cc in absurd (omega arith)
+  given h false true e e' (Err c) n m r o p q is g = cc
 
   confirm_filled : (m : Model X S) (i mat : ℕ) (w : Row X S) (r : Result (Unit {0}) (Refusal × Hold)) (o : Model X S) →
       m.terms.shut ≡ false → Vacant m i → Confirms (filled m i mat w) (hold_of m mat) r o → r ≡ Ok tt
@@ -60,7 +59,7 @@ module _ {X S : Type 0} where
   module _ (numbers : X → Numbers) (limits : X → ℕ → Bool) (steps : X → Steps S) where
     after_decided : (x : Result ℕ Refusal) (m : Model X S) (mat : ℕ) (k : X) (h : Hold) (count : ℕ) (n : Model X S) (r : Result (Unit {0}) (Refusal × Hold)) (o : Model X S) →
         m.terms.shut ≡ false → Decided numbers limits steps x m mat k (Ok (h, count)) n → Confirms n h r o → r ≡ Ok tt
-    after_decided (Err e) m mat k h count n r o unshut d c = let q = d.0 in let z : ◌≡◌ {A = ℕ} 0 1 = cc in absurd (omega arith)
+    after_decided (Err e) m mat k h count n r o unshut d c = let q = d.0 in cc
     after_decided (Ok points) m mat k h count n r o unshut (i, vacant, q, is) c =
         let w : Row X S = record { kind = k; state = (steps k).fresh } in
         let same : h ≡ hold_of m mat = hold_is (h, count) (hold_of m mat, points) q in
@@ -69,7 +68,7 @@ module _ {X S : Type 0} where
 
     after_cause : (x : Option Refusal) (m : Model X S) (mat : ℕ) (k : X) (h : Hold) (count : ℕ) (n : Model X S) (r : Result (Unit {0}) (Refusal × Hold)) (o : Model X S) →
         hold_cause limits m mat k ≡ x → HeldOr numbers limits steps x m mat k (Ok (h, count)) n → Confirms n h r o → r ≡ Ok tt
-    after_cause (Some e) m mat k h count n r o is d c = let q = d.0 in let z : ◌≡◌ {A = ℕ} 0 1 = cc in absurd (omega arith)
+    after_cause (Some e) m mat k h count n r o is d c = let q = d.0 in cc
     after_cause None m mat k h count n r o is (v, judged, d) c =
         after_decided (decided v) m mat k h count n r o (unless_cause m.terms.shut _ _ is).0 d c
 
@@ -78,4 +77,4 @@ module _ {X S : Type 0} where
         Holds numbers limits steps m mat k (Ok (h, count)) n → Confirms n h (Err e) o → ⊥
     confirm_granted m mat k h count n e o held confirmed =
         let granted : ◌≡◌ {A = Result (Unit {0}) (Refusal × Hold)} (Err e) (Ok tt) = after_cause (hold_cause limits m mat k) m mat k h count n (Err e) o refl held confirmed in
-        let z : ◌≡◌ {A = ℕ} 0 1 = cc in omega arith
+        cc

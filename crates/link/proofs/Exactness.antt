@@ -1,7 +1,6 @@
 -- The verdict's refusals of a hold, and the least allowance, are exact: a link that stands gives the verdict only channels that it can judge.
 use Rattle.std.proofs.Common.{◌≡◌, ℕ, Bool, true, false, List, [], ◌∷◌, ◌++◌, length, Ok, Err, Result, sym, refl, subst, inl, inr}
 use Rattle.std.proofs.ByRecursion.{All-push}
-use Rattle.std.proofs.lemmas.Bool.{true≢false}
 use Rattle.traffic.specs.Arrivals.{Steps}
 use Rattle.traffic.specs.Curves.{Numbers}
 use Rattle.verdict.specs.Judged.{Judgeable, Judged}
@@ -48,7 +47,7 @@ module _ {X S : Type 0} (numbers : X → Numbers) (limits : X → ℕ → Bool) 
   decided_tells m mat k r o (Err (Fails point count)) able j d =
       subst (HoldTells numbers limits dated steps m k) (sym d.0) (record { refused = judged_needful _ _ _ (Err (Fails point count)) j able; number = λ e. inr refl })
   decided_tells m mat k r o (Ok count) able j d =
-      subst (HoldTells numbers limits dated steps m k) (sym d.2) (record { refused = judged_needful _ _ _ (Ok count) j able; number = λ e. absurd (true≢false e) })
+      subst (HoldTells numbers limits dated steps m k) (sym d.2) (record { refused = judged_needful _ _ _ (Ok count) j able; number = λ e. cc })
 
   -- a hold that meets no cause before the verdict is refused exactly if the channels with the new one are defeated
   pub holds_exact : (m : Model X S) → Standing numbers limits m → HoldExact numbers limits dated steps m
@@ -61,7 +60,7 @@ module _ {X S : Type 0} (numbers : X → Numbers) (limits : X → ℕ → Bool) 
       Able m (dated k 40320) → Least numbers limits dated m.terms.longest (length m.rows) (channels m.rows) k x →
       NeedfulLeast numbers steps limits dated m.terms.longest (length m.rows) (channels m.rows) k x → Told x r → LeastTells numbers limits dated steps m k r
   told_tells m k r (Ok found) able least exact told =
-      subst (LeastTells numbers limits dated steps m k) (sym told) (record { refused = exact.refused able; number = λ e. absurd (true≢false e); carried = exact.carried; shorter = exact.shorter })
+      subst (LeastTells numbers limits dated steps m k) (sym told) (record { refused = exact.refused able; number = λ e. cc; carried = exact.carried; shorter = exact.shorter })
   told_tells m k r (Err OutsideLimits) able least exact told = absurd (least able)
   told_tells m k r (Err Heavy) able least exact told =
       subst (LeastTells numbers limits dated steps m k) (sym told) (record { refused = exact.refused able; number = λ e. inl refl; carried = tt; shorter = tt })

@@ -7,34 +7,17 @@ use Rattle.traffic.specs.declared.Row.{Row}
 use Rattle.verdict.specs.Demand.{total, blocking}
 use Rattle.verdict.specs.Passes.{Passes}
 use Rattle.link.specs.declared.state.Event.{Event}
-use Rattle.link.specs.declared.state.Event.TheVariants.{Hold, Confirm, Cancel, Release, Quiet}
+use Rattle.link.specs.declared.state.Event.TheVariants.{Hold}
 use Rattle.link.specs.declared.state.Phase.{Phase}
-use Rattle.link.specs.declared.state.Phase.TheVariants.{Free, Held, Live, Leaving}
+use Rattle.link.specs.declared.state.Phase.TheVariants.{Free}
 use Rattle.link.specs.Model.{FullRow, Model, Terms, channels, on_entry, on_row}
 use Rattle.link.specs.Rows.{counts, counted, next, moved, changed}
 use Rattle.link.specs.Standing.{Differ, Apart, Numbered, InRange, Standing}
 
 pub fading_phase : (p : Phase) (e : Event) → (e ≡ Hold → ⊥) → counts (next p e) ≡ true → counts p ≡ true
 fading_phase Free Hold n h = absurd (n refl)
-fading_phase Free Confirm n h = h
-fading_phase Free Cancel n h = h
-fading_phase Free Release n h = h
-fading_phase Free Quiet n h = h
-fading_phase Held Hold n h = refl
-fading_phase Held Confirm n h = refl
-fading_phase Held Cancel n h = refl
-fading_phase Held Release n h = refl
-fading_phase Held Quiet n h = refl
-fading_phase Live Hold n h = refl
-fading_phase Live Confirm n h = refl
-fading_phase Live Cancel n h = refl
-fading_phase Live Release n h = refl
-fading_phase Live Quiet n h = refl
-fading_phase Leaving Hold n h = refl
-fading_phase Leaving Confirm n h = refl
-fading_phase Leaving Cancel n h = refl
-fading_phase Leaving Release n h = refl
-fading_phase Leaving Quiet n h = refl
+fading_phase Free e n h = h
+fading_phase p e n h = refl
 
 module _ {X S : Type 0} where
   pub record Fade (r q : FullRow X S) : Type 0 where
@@ -78,9 +61,8 @@ module _ {X S : Type 0} where
   -- rows that fade stay as many
   length-fades : (rs qs : List (FullRow X S)) → Fades rs qs → length qs ≡ length rs
   length-fades [] [] g = refl
-  length-fades [] (q ∷ qs) g = absurd g
-  length-fades (r ∷ rs) [] g = absurd g
   length-fades (r ∷ rs) (q ∷ qs) g = ap suc (length-fades rs qs g.1)
+  length-fades rs qs g = absurd g
 
   -- a link with the same terms and as many rows is in range too
   pub in_range_same : (m o : Model X S) → o.terms ≡ m.terms → length o.rows ≡ length m.rows → InRange m → InRange o
@@ -95,22 +77,19 @@ module _ {X S : Type 0} where
 
   all_differ_fades : (a c : FullRow X S) (rs qs : List (FullRow X S)) → Fade a c → Fades rs qs → AllByRecursion (Differ a) rs → AllByRecursion (Differ c) qs
   all_differ_fades a c [] [] f g h = tt
-  all_differ_fades a c [] (q ∷ qs) f g h = absurd g
-  all_differ_fades a c (r ∷ rs) [] f g h = absurd g
   all_differ_fades a c (r ∷ rs) (q ∷ qs) f g h = (differ_fades a r c q f g.0 h.0, all_differ_fades a c rs qs f g.1 h.1)
+  all_differ_fades a c rs qs f g h = absurd g
 
   apart_fades : (rs qs : List (FullRow X S)) → Fades rs qs → Apart rs → Apart qs
   apart_fades [] [] g h = tt
-  apart_fades [] (q ∷ qs) g h = absurd g
-  apart_fades (r ∷ rs) [] g h = absurd g
   apart_fades (r ∷ rs) (q ∷ qs) g h = (all_differ_fades r q rs qs g.0 g.1 h.0, apart_fades rs qs g.1 h.1)
+  apart_fades rs qs g h = absurd g
 
   numbered_fades : (n : ℕ) (rs qs : List (FullRow X S)) → Fades rs qs → AllByRecursion (Numbered n) rs → AllByRecursion (Numbered n) qs
   numbered_fades n [] [] g h = tt
-  numbered_fades n [] (q ∷ qs) g h = absurd g
-  numbered_fades n (r ∷ rs) [] g h = absurd g
   numbered_fades n (r ∷ rs) (q ∷ qs) g h =
       (λ c. subst (λ x. x ≤ n) (sym g.0.serial) (h.0 (g.0.counts_less c)), numbered_fades n rs qs g.1 h.1)
+  numbered_fades n rs qs g h = absurd g
 
 module _ {X : Type 0} where
   total-fewer : (f : X → ℕ) (b c : Bool) (k j : X) (xs ys : List X) → (c ≡ true → b ≡ true) → j ≡ k → total f xs ≤ total f ys → total f (cond c (j ∷ xs) xs) ≤ total f (cond b (k ∷ ys) ys)
@@ -137,17 +116,15 @@ module _ {X : Type 0} where
 module _ {X S : Type 0} where
   total-fades : (f : X → ℕ) (rs qs : List (FullRow X S)) → Fades rs qs → total f (channels qs) ≤ total f (channels rs)
   total-fades f [] [] g = omega arith
-  total-fades f [] (q ∷ qs) g = absurd g
-  total-fades f (r ∷ rs) [] g = absurd g
   total-fades f (r ∷ rs) (q ∷ qs) g =
       total-fewer f (counted r.entry) (counted q.entry) r.row.kind q.row.kind (channels qs) (channels rs) g.0.counts_less g.0.kind (total-fades f rs qs g.1)
+  total-fades f rs qs g = absurd g
 
   all_fades : (P : X → Type 0) (rs qs : List (FullRow X S)) → Fades rs qs → AllByRecursion P (channels rs) → AllByRecursion P (channels qs)
   all_fades P [] [] g a = tt
-  all_fades P [] (q ∷ qs) g a = absurd g
-  all_fades P (r ∷ rs) [] g a = absurd g
   all_fades P (r ∷ rs) (q ∷ qs) g a =
       all_fewer P (counted r.entry) (counted q.entry) r.row.kind q.row.kind (channels qs) (channels rs) g.0.counts_less g.0.kind (all_fades P rs qs g.1) a
+  all_fades P rs qs g a = absurd g
 
   -- a link whose rows only fade still stands
   pub standing_fades : (numbers : X → Numbers) (limits : X → ℕ → Bool) (m o : Model X S) → o.terms ≡ m.terms → o.serials ≡ m.serials → Fades m.rows o.rows → Standing numbers limits m → Standing numbers limits o

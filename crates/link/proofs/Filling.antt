@@ -1,6 +1,6 @@
 -- A free row that is filled.
-use Rattle.std.proofs.Common.{◌≡◌, ℕ, zero, suc, ◌+◌, Bool, true, false, cond, ◌&&◌, eqb, List, [], ◌∷◌, ◌++◌, set, Some, sym, refl, ap, ◌∙◌, subst, arith, length-set, eq-eqb}
-use Rattle.std.proofs.lemmas.Bool.{true≢false}
+use Rattle.std.proofs.Common.{◌≡◌, ℕ, zero, suc, ◌+◌, Bool, true, false, cond, eqb, List, [], ◌∷◌, ◌++◌, set, Some, sym, refl, ap, ◌∙◌, subst, arith, length-set, eq-eqb}
+use Rattle.std.proofs.lemmas.Bool.{true≢false, and_from}
 use Rattle.std.specs.List.{slice_get, AllByRecursion}
 use Rattle.traffic.specs.Curves.{Numbers}
 use Rattle.traffic.specs.declared.Row.{Row}
@@ -15,9 +15,6 @@ use Rattle.link.specs.Standing.{Differ, Apart, Numbered, Standing}
 use Rattle.link.specs.Holding.{Vacant, filled}
 use Rattle.link.proofs.Places.{all_set}
 use Rattle.link.proofs.Fading.{in_range_same, passes_less}
-
-both_true : (a b : Bool) → a ≡ true → b ≡ true → (a && b) ≡ true
-both_true a b p q = rw (p, q)
 
 module _ {X : Type 0} where
   total-cond : (f : X → ℕ) (b : Bool) (x k : X) (xs ys : List X) → total f ys ≡ f k + total f xs → total f (cond b (x ∷ ys) ys) ≡ f k + total f (cond b (x ∷ xs) xs)
@@ -41,7 +38,7 @@ module _ {X S : Type 0} where
     -- the channels of the filled table are the counted ones and the new one
     total-filled : (f : X → ℕ) (rs : List (FullRow X S)) (i : ℕ) (r : FullRow X S) → slice_get rs i ≡ Some r → r.entry.phase ≡ Free →
         total f (channels (set rs i q)) ≡ f q.row.kind + total f (channels rs)
-    total-filled f [] i r h e = let z : ◌≡◌ {A = ℕ} 0 1 = cc in absurd (omega arith)
+    total-filled f [] i r h e = cc
     total-filled f (x ∷ rs) zero r h e =
         let is : x ≡ r = cc in
         let free : x.entry.phase ≡ Free = ap (λ (y : FullRow X S). y.entry.phase) is ∙ e in
@@ -51,7 +48,7 @@ module _ {X S : Type 0} where
 
     all_filled : (P : X → Type 0) (rs : List (FullRow X S)) (i : ℕ) (r : FullRow X S) → slice_get rs i ≡ Some r → r.entry.phase ≡ Free →
         P q.row.kind → AllByRecursion P (channels rs) → AllByRecursion P (channels (set rs i q))
-    all_filled P [] i r h e p a = let z : ◌≡◌ {A = ℕ} 0 1 = cc in absurd (omega arith)
+    all_filled P [] i r h e p a = cc
     all_filled P (x ∷ rs) zero r h e p a =
         let is : x ≡ r = cc in
         let free : x.entry.phase ≡ Free = ap (λ (y : FullRow X S). y.entry.phase) is ∙ e in
@@ -62,7 +59,7 @@ module _ {X S : Type 0} where
 
   new_differs : (mat n : ℕ) (q r : FullRow X S) → q.entry.mat ≡ mat → q.entry.serial ≡ n + 1 → counted_of mat r.entry ≡ false → Numbered n r → Differ q r
   new_differs mat n q r m s h b x y = (
-    (λ e. true≢false (sym (both_true (eqb r.entry.mat mat) (counts r.entry.phase) (eq-eqb r.entry.mat mat (sym e ∙ m)) y) ∙ h)),
+    (λ e. true≢false (sym (and_from (eqb r.entry.mat mat) (counts r.entry.phase) (eq-eqb r.entry.mat mat (sym e ∙ m)) y) ∙ h)),
     (λ e. let l = b y in absurd (omega arith)),
   )
 

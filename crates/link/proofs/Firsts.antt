@@ -19,7 +19,7 @@ module _ {X : Type 0} (P : X → Bool) where
       ((j : ℕ) → o ≡ Some j → (y : X) × (slice_get xs j ≡ Some y) × (P y ≡ true)) → cond b (Some 0) (option_map suc o) ≡ Some i →
       (y : X) × (slice_get (x ∷ xs) i ≡ Some y) × (P y ≡ true)
   found_passes x xs true o i e f h = let z : 0 ≡ i = cc in (x, subst (λ k. slice_get (x ∷ xs) k ≡ Some x) z refl, e)
-  found_passes x xs false None i e f h = let z : ◌≡◌ {A = ℕ} 0 1 = cc in absurd (omega arith)
+  found_passes x xs false None i e f h = cc
   found_passes x xs false (Some j) i e f h =
       let z : suc j ≡ i = cc in
       let y = f j refl in
@@ -27,7 +27,7 @@ module _ {X : Type 0} (P : X → Bool) where
 
   -- what is found passes the test
   pub first_passes : (xs : List X) (i : ℕ) → position P xs ≡ Some i → (y : X) × (slice_get xs i ≡ Some y) × (P y ≡ true)
-  first_passes [] i h = let z : ◌≡◌ {A = ℕ} 0 1 = cc in absurd (omega arith)
+  first_passes [] i h = cc
   first_passes (x ∷ xs) i h = found_passes x xs (P x) (position P xs) i refl (first_passes xs) (sym (position-cons x xs) ∙ h)
 
   -- what is found among the first n of 32 lies below both

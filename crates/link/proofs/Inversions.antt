@@ -1,6 +1,6 @@
 -- What a granted outcome tells.
-use Rattle.std.proofs.Common.{◌≡◌, ℕ, suc, ◌≤◌, Bool, true, false, cond, ◌&&◌, List, [], ◌∷◌, is_some, Some, None, Ok, Err, Option, Result, sym, refl, subst, arith}
-use Rattle.std.proofs.lemmas.Bool.{true≢false, and_parts, leb-true}
+use Rattle.std.proofs.Common.{◌≡◌, ℕ, suc, ◌≤◌, Bool, true, false, cond, ◌&&◌, List, [], ◌∷◌, is_some, Some, None, Ok, Err, Option, Result, refl, subst}
+use Rattle.std.proofs.lemmas.Bool.{and_parts, leb-true}
 use Rattle.std.specs.Option.{option_map}
 use Rattle.std.specs.List.{AllByRecursion, position}
 use Rattle.refusals.specs.declared.Refusal.{Refusal}
@@ -11,12 +11,12 @@ use Rattle.link.specs.Holding.{hold_cause}
 use Rattle.link.proofs.Firsts.{position-cons}
 
 pub unless_refused : {U : Type 0} (b : Bool) (e : Refusal) (x : Result U Refusal) (y : U) → cond b (Err e) x ≡ Ok y → x ≡ Ok y
-unless_refused true e x y h = let z : ◌≡◌ {A = ℕ} 0 1 = cc in absurd (omega arith)
+unless_refused true e x y h = cc
 unless_refused false e x y h = h
 
 pub else_refused : {U : Type 0} (b : Bool) (e : Refusal) (x : Result U Refusal) (y : U) → cond b x (Err e) ≡ Ok y → x ≡ Ok y
 else_refused true e x y h = h
-else_refused false e x y h = let z : ◌≡◌ {A = ℕ} 0 1 = cc in absurd (omega arith)
+else_refused false e x y h = cc
 
 pub ok_same : {U : Type 0} (x y : U) → ◌≡◌ {A = Result U Refusal} (Ok x) (Ok y) → x ≡ y
 ok_same x y h = cc
@@ -25,21 +25,17 @@ pub some_same : {U : Type 0} (x y : U) → ◌≡◌ {A = Option U} (Some x) (So
 some_same x y h = cc
 
 pub unless_cause : (b : Bool) (e : Refusal) (x : Option Refusal) → cond b (Some e) x ≡ None → (b ≡ false) × (x ≡ None)
-unless_cause true e x h = let z : ◌≡◌ {A = ℕ} 0 1 = cc in absurd (omega arith)
+unless_cause true e x h = cc
 unless_cause false e x h = (refl, h)
 
 pub else_cause : (b : Bool) (e : Refusal) (x : Option Refusal) → cond b x (Some e) ≡ None → (b ≡ true) × (x ≡ None)
 else_cause true e x h = (refl, h)
-else_cause false e x h = let z : ◌≡◌ {A = ℕ} 0 1 = cc in absurd (omega arith)
-
-right_true : (a b : Bool) → (a && b) ≡ true → b ≡ true
-right_true true b h = h
-right_true false b h = absurd (true≢false (sym h))
+else_cause false e x h = cc
 
 none_cases : (b : Bool) (o : Option ℕ) → is_some (cond b (Some 0) (option_map suc o)) ≡ false → (b ≡ false) × (is_some o ≡ false)
-none_cases true o h = absurd (true≢false h)
+none_cases true o h = cc
 none_cases false None h = (refl, refl)
-none_cases false (Some j) h = absurd (true≢false h)
+none_cases false (Some j) h = cc
 
 -- where a search finds none, none passes
 pub none_passes : {X : Type 0} (P : X → Bool) (xs : List X) → is_some (position P xs) ≡ false → AllByRecursion (λ x. P x ≡ false) xs
@@ -59,7 +55,7 @@ hold_new limits m mat k h =
 pub hold_within : {X S : Type 0} (limits : X → ℕ → Bool) (m : Model X S) (mat : ℕ) (k : X) → hold_cause limits m mat k ≡ None → limits k m.terms.longest ≡ true
 hold_within limits m mat k h =
     let a = (unless_cause m.terms.shut _ _ h).1 in
-    right_true (is_mat_lem mat) (limits k m.terms.longest) (else_cause (is_mat_lem mat && limits k m.terms.longest) _ _ a).0
+    (and_parts (is_mat_lem mat) (limits k m.terms.longest) (else_cause (is_mat_lem mat && limits k m.terms.longest) _ _ a).0).1
 
 -- and not mat 0
 pub hold_mat : {X S : Type 0} (limits : X → ℕ → Bool) (m : Model X S) (mat : ℕ) (k : X) → hold_cause limits m mat k ≡ None → 1 ≤ mat

@@ -1,7 +1,6 @@
 -- Records beside rows: what changes one list changes the joined one.
-use Rattle.std.proofs.Common.{◌≡◌, ℕ, zero, suc, ◌+◌, ◌<◌, ◌≤◌, Bool, true, false, cond, not, List, [], ◌∷◌, ◌++◌, map, length, get_or, take, set, replicate, IfSome, Some, None, Option, sym, refl, ap, ◌∙◌, le_of_suc-le-suc, not-suc-le-zero, arith, length-set}
+use Rattle.std.proofs.Common.{◌≡◌, ℕ, zero, suc, ◌+◌, ◌<◌, ◌≤◌, Bool, true, false, cond, not, List, [], ◌∷◌, map, length, get_or, take, set, replicate, IfSome, Some, None, Option, sym, refl, ap, ◌∙◌, le_of_suc-le-suc, not-suc-le-zero, length-set}
 use Rattle.std.specs.List.{slice_get, position}
-use Rattle.std.proofs.lemmas.Bool.{true≢false}
 use Rattle.std.specs.Option.{option_map}
 use Rattle.traffic.specs.declared.Curve.{Ghosts as CurveGhosts}
 use Rattle.traffic.specs.declared.Traffic.{Ghosts as TrafficGhosts}
@@ -11,7 +10,7 @@ use Rattle.verdict.specs.Members.{marked, present}
 use Rattle.link.specs.declared.state.Link.{Link}
 use Rattle.link.specs.declared.state.Packet.{Packet}
 use Rattle.link.specs.declared.state.Phase.{Phase}
-use Rattle.link.specs.declared.state.Phase.TheVariants.{Free, Held, Live, Leaving}
+use Rattle.link.specs.declared.state.Phase.TheVariants.{Free, Held}
 use Rattle.link.specs.declared.state.Record.{Record}
 use Rattle.link.specs.Rows.{blank, counts, counted, is_free, changed}
 use Rattle.link.specs.Holding.{filled}
@@ -20,19 +19,12 @@ use Rattle.link.specs.Model.{FullRow, joined, channels, on_entry, on_row, terms_
 
 uncounted : (p : Phase) → not (counts p) ≡ true → p ≡ Free
 uncounted Free h = refl
-uncounted Held h = absurd (true≢false (sym h))
-uncounted Live h = absurd (true≢false (sym h))
-uncounted Leaving h = absurd (true≢false (sym h))
+uncounted p h = cc
 
 module _ {X : Type 0} where
   present_cond : (b : Bool) (k : X) (os : List (Option X)) → present (cond b (Some k) None ∷ os) ≡ cond b (k ∷ present os) (present os)
   present_cond true k os = refl
   present_cond false k os = refl
-
-  pub present_one_more : (os : List (Option X)) (o : Option X) → present (os ++ o ∷ []) ≡ present os ++ present (o ∷ [])
-  present_one_more [] o = refl
-  present_one_more (None ∷ os) o = present_one_more os o
-  present_one_more (Some x ∷ os) o = ap (λ ks. x ∷ ks) (present_one_more os o)
 
 module _ {X S : Type 0} where
   abbrev full : Record → Row X S → FullRow X S
@@ -60,7 +52,7 @@ module _ {X S : Type 0} where
 
   pub joined_nth : (es : List Record) (ws : List (Row X S)) (i : ℕ) (w : Row X S) (d : Record) → i < length es → slice_get ws i ≡ Some w → slice_get (joined es ws) i ≡ Some (full (get_or es i d) w)
   joined_nth [] ws i w d l h = absurd (not-suc-le-zero l)
-  joined_nth (e ∷ es) [] i w d l h = let z : ◌≡◌ {A = ℕ} 0 1 = cc in absurd (omega arith)
+  joined_nth (e ∷ es) [] i w d l h = cc
   joined_nth (e ∷ es) (v ∷ ws) zero w d l h = let is : v ≡ w = cc in rw is
   joined_nth (e ∷ es) (v ∷ ws) (suc i) w d l h = joined_nth es ws i w d (le_of_suc-le-suc l) h
 
@@ -135,8 +127,8 @@ module _ {X S : Type 0} where
       (y.0, y.1, uncounted y.0.entry.phase y.2)
 
   pub joined_entry : (es : List Record) (ws : List (Row X S)) (i : ℕ) (r : FullRow X S) (d : Record) → slice_get (joined es ws) i ≡ Some r → r.entry ≡ get_or es i d
-  joined_entry [] ws i r d h = let z : ◌≡◌ {A = ℕ} 0 1 = cc in absurd (omega arith)
-  joined_entry (e ∷ es) [] i r d h = let z : ◌≡◌ {A = ℕ} 0 1 = cc in absurd (omega arith)
+  joined_entry [] ws i r d h = cc
+  joined_entry (e ∷ es) [] i r d h = cc
   joined_entry (e ∷ es) (w ∷ ws) zero r d h = let is : full e w ≡ r = cc in ap (λ (q : FullRow X S). q.entry) (sym is)
   joined_entry (e ∷ es) (w ∷ ws) (suc i) r d h = joined_entry es ws i r d h
 

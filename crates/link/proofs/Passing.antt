@@ -74,7 +74,7 @@ module _ {X S : Type 0} (numbers : X → Numbers) (steps : X → Steps S) (p : �
         (ledger_quiet_among numbers steps p (earliest_first numbers steps p) s.q s.sent after_slot s.entries rest.stay rest.each
         (served numbers steps p hs limits (passed a) rest.stay (ap (λ t. t.longest) st.terms ∙ s.longest) stand tracks) st.tick none s.ledger)
         (omega (arith, s.clock, cond-true (is_quiet (option_map told a.air)) 0 (busy_slots hs + 1) calm)) tracks
-        (subst (AllByRecursion (Allowed numbers hs)) (sym rows) (All-map (Allowed numbers hs) (on_entry (moved Quiet)) n.rows (All-weaker _ _ (λ r h c. h (fading_phase r.entry.phase Quiet (λ e. let z : ◌≡◌ {A = ℕ} 0 1 = cc in omega arith) c)) n.rows s.allowed)))
+        (subst (AllByRecursion (Allowed numbers hs)) (sym rows) (All-map (Allowed numbers hs) (on_entry (moved Quiet)) n.rows (All-weaker _ _ (λ r h c. h (fading_phase r.entry.phase Quiet (λ e. cc) c)) n.rows s.allowed)))
         (st.fewer (Packed numbers hs a.rows n.clock n.offers) (subst (AllByRecursion (Packed numbers hs a.rows n.clock n.offers)) (sym empty) tt))
 
   pub sends_passes : (limits : X → ℕ → Bool) (n a : Model X S) → Begins n.air n a → Standing numbers limits (passed a) → Now numbers steps p hs n → Then numbers steps p hs (passes (option_map told a.air)) (passed a)

@@ -1,12 +1,12 @@
 -- One place of a list changed: what holds of each or of some element.
-use Rattle.std.proofs.Common.{◌≡◌, ℕ, zero, suc, List, [], ◌∷◌, set, Some, sym, subst, inl, inr, arith}
+use Rattle.std.proofs.Common.{◌≡◌, ℕ, zero, suc, List, [], ◌∷◌, set, Some, sym, subst, inl, inr}
 use Rattle.std.specs.List.{slice_get, AllByRecursion}
 use Rattle.schedule.specs.Schedules.{Any}
 use Rattle.link.specs.Rows.{changed}
 
 module _ {X : Type 0} (P : X → Type 0) where
   pub all_nth : (xs : List X) (i : ℕ) (x : X) → slice_get xs i ≡ Some x → AllByRecursion P xs → P x
-  all_nth [] i x h a = let z : ◌≡◌ {A = ℕ} 0 1 = cc in absurd (omega arith)
+  all_nth [] i x h a = cc
   all_nth (y ∷ xs) zero x h a = let is : y ≡ x = cc in subst P is a.0
   all_nth (y ∷ xs) (suc i) x h a = all_nth xs i x h a.1
 
@@ -24,7 +24,7 @@ module _ {X : Type 0} (P : X → Type 0) where
 
   -- the changed element has the property
   pub any_here : (f : X → X) (xs : List X) (i : ℕ) (x : X) → slice_get xs i ≡ Some x → P (f x) → Any P (changed f i xs)
-  any_here f [] i x h p = let z : ◌≡◌ {A = ℕ} 0 1 = cc in absurd (omega arith)
+  any_here f [] i x h p = cc
   any_here f (y ∷ xs) zero x h p = let is : y ≡ x = cc in inl (subst (λ z. P (f z)) (sym is) p)
   any_here f (y ∷ xs) (suc i) x h p = inr (any_here f xs i x h p)
 

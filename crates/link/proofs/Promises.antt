@@ -1,7 +1,7 @@
 -- What a link promises, read off its ledger after every history.
 use Rattle.std.proofs.Common.{◌≡◌, ℕ, ◌+◌, ◌-◌, ◌*◌, ◌<◌, ◌≤◌, Bool, true, ◌⊎◌, List, [], ◌∷◌, map, take, Some, sym, refl, ap, ◌∙◌, subst, inl, inr, arith}
 use Rattle.std.proofs.lemmas.Nat.{le-div}
-use Rattle.std.proofs.lemmas.Bool.{true≢false, cases_eq, cases_lt, le-leb}
+use Rattle.std.proofs.lemmas.Bool.{cases_eq, cases_lt, le-leb}
 use Rattle.std.specs.List.{slice_get, AllByRecursion}
 use Rattle.traffic.specs.Arrivals.{Steps}
 use Rattle.traffic.specs.Curves.{Numbers}
@@ -39,7 +39,7 @@ module _ {X S : Type 0} where
 module _ {X S : Type 0} (numbers : X → Numbers) where
   allowed_blank : (ws : List (Row X S)) → AllByRecursion (Allowed numbers []) (map (λ w. record { entry = blank; row = w }) ws)
   allowed_blank [] = tt
-  allowed_blank (w ∷ ws) = (λ c. absurd (true≢false (sym c)), allowed_blank ws)
+  allowed_blank (w ∷ ws) = (λ c. cc, allowed_blank ws)
 
   module _ (steps : X → Steps S) where
     sends_opened : (name p : ℕ) (rows : List (Row X S)) (places : ℕ) → Sends numbers steps p [] (opened name p rows places)
@@ -78,7 +78,7 @@ module _ {X S : Type 0} (numbers : X → Numbers) where
         | inl zero ↦
             let none : dues_of numbers mat hs ≡ [] = ap (λ m. dues_of numbers m hs) zero ∙ s.no_dues in
             let at_none : slice_get {X = ℕ} [] i ≡ Some due = subst (λ ds. slice_get ds i ≡ Some due) none at_i in
-            let z : ◌≡◌ {A = ℕ} 0 1 = cc in absurd (omega arith)
+            cc
         | inr some ↦
             lined_reads numbers mat hs n.air n.waiting s.sent.log (subst (λ c. OnAir c n.air s.sent.log) (s.clock ∙ sym s.passed_clock) s.air) s.ledger.timely waiting_ahead (s.lined mat (omega arith)) i due at_i
       ]

@@ -38,7 +38,7 @@ in_time_push ds es d e h le = AllZip-push (λ due end. end ≤ due) ds es d e h 
 
 -- the due slots past the ends are ahead
 ahead : (s : ℕ) (later : List ℕ) → AllByRecursion (λ d. s < d) later → (n due : ℕ) → slice_get later n ≡ Some due → s < due
-ahead s [] all n due h = let z : ◌≡◌ {A = ℕ} 0 1 = cc in absurd (omega arith)
+ahead s [] all n due h = cc
 ahead s (d ∷ later) all zero due h = let is : d ≡ due = cc in omega arith
 ahead s (d ∷ later) all (suc n) due h = ahead s later all.1 n due h
 

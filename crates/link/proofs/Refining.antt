@@ -43,13 +43,13 @@ sends Live = true
 sends Leaving = true
 
 pub live_sends : (p : Phase) → is_live p ≡ true → sends p ≡ true
-live_sends Free h = absurd (true≢false (sym h))
-live_sends Held h = absurd (true≢false (sym h))
+live_sends Free h = cc
+live_sends Held h = cc
 live_sends Live h = refl
-live_sends Leaving h = absurd (true≢false (sym h))
+live_sends Leaving h = cc
 
 pub sends_counts : (p : Phase) → sends p ≡ true → counts p ≡ true
-sends_counts Free h = absurd (true≢false (sym h))
+sends_counts Free h = cc
 sends_counts Held h = refl
 sends_counts Live h = refl
 sends_counts Leaving h = refl

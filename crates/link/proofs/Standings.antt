@@ -1,6 +1,6 @@
 -- A link stands at its opening, and every change leaves it standing.
 use Rattle.std.proofs.Common.{◌≡◌, ℕ, Bool, true, false, leb, List, [], ◌∷◌, map, take, Some, None, Option, sym, refl, subst, inl, inr, arith}
-use Rattle.std.proofs.lemmas.Bool.{true≢false, and_parts, not-false, leb-true}
+use Rattle.std.proofs.lemmas.Bool.{and_parts, not-false, leb-true}
 use Rattle.std.proofs.lemmas.List.{length-map, length-take}
 use Rattle.std.specs.List.{AllByRecursion}
 use Rattle.traffic.specs.Arrivals.{Steps}
@@ -25,10 +25,10 @@ use Rattle.link.proofs.Fading.{Fades, fades_same, fade_moved, fades_changed, fad
 use Rattle.link.proofs.Filling.{standing_filled}
 
 no_hold : (e : Event) (p : Phase) → Moves e p → e ≡ Hold → ⊥
-no_hold e p confirms h = let z : ◌≡◌ {A = ℕ} 0 1 = cc in omega arith
-no_hold e p cancels h = let z : ◌≡◌ {A = ℕ} 0 1 = cc in omega arith
-no_hold e p frees h = let z : ◌≡◌ {A = ℕ} 0 1 = cc in omega arith
-no_hold e p leaves h = let z : ◌≡◌ {A = ℕ} 0 1 = cc in omega arith
+no_hold e p confirms h = cc
+no_hold e p cancels h = cc
+no_hold e p frees h = cc
+no_hold e p leaves h = cc
 
 module _ {X S : Type 0} (numbers : X → Numbers) (limits : X → ℕ → Bool) where
   -- what a change that only moves rows leaves: the same terms and serials, and rows that fade
@@ -44,7 +44,7 @@ module _ {X S : Type 0} (numbers : X → Numbers) (limits : X → ℕ → Bool) 
   begins_stands : (a : Option Air) (m n : Model X S) → Begins a m n → Standing numbers limits m → Standing numbers limits n
   begins_stands (Some a) m n b s = same m n b s
   begins_stands None m n (inl b) s =
-      same (quiet m) n b.1 (milder m (quiet m) (refl, refl, fades_map (on_entry (moved Quiet)) (fade_moved Quiet (λ e. let z : ◌≡◌ {A = ℕ} 0 1 = cc in omega arith)) m.rows) s)
+      same (quiet m) n b.1 (milder m (quiet m) (refl, refl, fades_map (on_entry (moved Quiet)) (fade_moved Quiet (λ e. cc)) m.rows) s)
   begins_stands None m n (inr (p, f, sh, e)) s =
       same (going m p n.waiting) n e (milder m (going m p n.waiting) (refl, refl, fades_same m.rows) s)
 
@@ -65,7 +65,7 @@ module _ {X S : Type 0} (numbers : X → Numbers) (limits : X → ℕ → Bool) 
 
   differs : (v : Row X S) (ws : List (Row X S)) → AllByRecursion (Differ (record { entry = blank; row = v })) (map (λ w. record { entry = blank; row = w }) ws)
   differs v [] = tt
-  differs v (w ∷ ws) = (λ a b. absurd (true≢false (sym a)), differs v ws)
+  differs v (w ∷ ws) = (λ a b. cc, differs v ws)
 
   apart_blank : (ws : List (Row X S)) → Apart (map (λ w. record { entry = blank; row = w }) ws)
   apart_blank [] = tt
@@ -73,7 +73,7 @@ module _ {X S : Type 0} (numbers : X → Numbers) (limits : X → ℕ → Bool) 
 
   numbered_blank : (ws : List (Row X S)) → AllByRecursion (Numbered 0) (map (λ w. record { entry = blank; row = w }) ws)
   numbered_blank [] = tt
-  numbered_blank (w ∷ ws) = (λ c. absurd (true≢false (sym c)), numbered_blank ws)
+  numbered_blank (w ∷ ws) = (λ c. cc, numbered_blank ws)
 
   channels_blank : (ws : List (Row X S)) → channels (map (λ w. record { entry = blank; row = w }) ws) ≡ []
   channels_blank [] = refl

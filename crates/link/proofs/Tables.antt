@@ -1,12 +1,12 @@
 -- One record changed, and whether any row is leaving.
-use Rattle.std.proofs.Common.{◌≡◌, ℕ, zero, suc, ◌≤◌, Bool, true, false, not, ◌&&◌, ◌||◌, List, [], ◌∷◌, ◌++◌, map, length, take, drop, get_or, set, sym, refl, ap, ◌∙◌, take_all}
+use Rattle.std.proofs.Common.{◌≡◌, ℕ, zero, suc, ◌≤◌, Bool, true, false, not, ◌||◌, List, [], ◌∷◌, ◌++◌, map, length, take, drop, get_or, set, refl, ap, ◌∙◌, take_all}
 use Rattle.std.proofs.lemmas.List.{append-nil, drop_all}
-use Rattle.std.proofs.lemmas.Bool.{true≢false}
+use Rattle.std.proofs.lemmas.Bool.{and_from, and_parts}
 use Rattle.link.specs.declared.state.Record.{Record}
 use Rattle.link.specs.declared.state.Phase.{Phase}
-use Rattle.link.specs.declared.state.Phase.TheVariants.{Free, Held, Live, Leaving}
+use Rattle.link.specs.declared.state.Phase.TheVariants.{Held, Leaving}
 use Rattle.link.specs.declared.state.Event.{Event}
-use Rattle.link.specs.declared.state.Event.TheVariants.{Hold, Confirm, Cancel, Release, Quiet}
+use Rattle.link.specs.declared.state.Event.TheVariants.{Release, Quiet}
 use Rattle.link.specs.Rows.{changed, next, moved, releases, is_leaving, none_leaving}
 
 pub set_changed : {X : Type 0} (f : X → X) (i : ℕ) (xs : List X) (d : X) → set xs i (f (get_or xs i d)) ≡ changed f i xs
@@ -18,43 +18,15 @@ set_changed f (suc i) (x ∷ xs) d = ap (λ ys. x ∷ ys) (set_changed f i xs d)
 pub changed_all : {X : Type 0} (f : X → X) (xs ys : List X) (i : ℕ) → length xs ≤ i → ys ≡ map f (take i xs) ++ drop i xs → ys ≡ map f xs
 changed_all f xs ys i l e = e ∙ rw (take_all i xs l, drop_all i xs l) (append-nil (map f xs))
 
-both : (a b : Bool) → a ≡ true → b ≡ true → (a && b) ≡ true
-both a b p q = rw (p, q)
-
-left : (a b : Bool) → (a && b) ≡ true → a ≡ true
-left true b h = refl
-left false b h = absurd (true≢false (sym h))
-
-right : (a b : Bool) → (a && b) ≡ true → b ≡ true
-right true b h = h
-right false b h = absurd (true≢false (sym h))
-
 calm : (p : Phase) (e : Event) → releases e ≡ false → not (is_leaving p) ≡ true → not (is_leaving (next p e)) ≡ true
-calm Free Hold r h = refl
-calm Free Confirm r h = refl
-calm Free Cancel r h = refl
-calm Free Release r h = absurd (true≢false r)
-calm Free Quiet r h = refl
-calm Held Hold r h = refl
-calm Held Confirm r h = refl
-calm Held Cancel r h = refl
-calm Held Release r h = absurd (true≢false r)
-calm Held Quiet r h = refl
-calm Live Hold r h = refl
-calm Live Confirm r h = refl
-calm Live Cancel r h = refl
-calm Live Release r h = absurd (true≢false r)
-calm Live Quiet r h = refl
-calm Leaving Hold r h = absurd (true≢false (sym h))
-calm Leaving Confirm r h = absurd (true≢false (sym h))
-calm Leaving Cancel r h = absurd (true≢false (sym h))
-calm Leaving Release r h = absurd (true≢false r)
-calm Leaving Quiet r h = absurd (true≢false (sym h))
+calm p Release r h = cc
+calm Leaving e r h = cc
+calm p e r h = refl
 
 calm_changed : (e : Event) (i : ℕ) (rs : List Record) → releases e ≡ false → none_leaving rs ≡ true → none_leaving (changed (moved e) i rs) ≡ true
 calm_changed e i [] r h = refl
-calm_changed e zero (x ∷ rs) r h = both _ _ (calm x.phase e r (left _ _ h)) (right _ _ h)
-calm_changed e (suc i) (x ∷ rs) r h = both _ _ (left _ _ h) (calm_changed e i rs r (right _ _ h))
+calm_changed e zero (x ∷ rs) r h = and_from _ _ (calm x.phase e r (and_parts _ _ h).0) (and_parts _ _ h).1
+calm_changed e (suc i) (x ∷ rs) r h = and_from _ _ (and_parts _ _ h).0 (calm_changed e i rs r (and_parts _ _ h).1)
 
 known_cases : (b q : Bool) (rs qs : List Record) → (q ≡ false → none_leaving rs ≡ true → none_leaving qs ≡ true) → (b || none_leaving rs) ≡ true → ((b || q) || none_leaving qs) ≡ true
 known_cases true q rs qs f h = refl
@@ -67,8 +39,8 @@ known_moved b e i rs h = known_cases b (releases e) rs (changed (moved e) i rs) 
 
 calm_set : (r : Record) (i : ℕ) (rs : List Record) → not (is_leaving r.phase) ≡ true → none_leaving rs ≡ true → none_leaving (set rs i r) ≡ true
 calm_set r i [] c h = refl
-calm_set r zero (x ∷ rs) c h = both _ _ c (right _ _ h)
-calm_set r (suc i) (x ∷ rs) c h = both _ _ (left _ _ h) (calm_set r i rs c (right _ _ h))
+calm_set r zero (x ∷ rs) c h = and_from _ _ c (and_parts _ _ h).1
+calm_set r (suc i) (x ∷ rs) c h = and_from _ _ (and_parts _ _ h).0 (calm_set r i rs c (and_parts _ _ h).1)
 
 known_set_cases : (b : Bool) (r : Record) (i : ℕ) (rs : List Record) → not (is_leaving r.phase) ≡ true → (b || none_leaving rs) ≡ true → (b || none_leaving (set rs i r)) ≡ true
 known_set_cases true r i rs c h = refl
@@ -79,25 +51,21 @@ pub known_set : (b : Bool) (r : Record) (i : ℕ) (rs : List Record) → r.phase
 known_set b r i rs e h = known_set_cases b r i rs (rw e) h
 
 rests : (p : Phase) → not (is_leaving p) ≡ true → next p Quiet ≡ p
-rests Free h = refl
-rests Held h = refl
-rests Live h = refl
-rests Leaving h = absurd (true≢false (sym h))
+rests Leaving h = cc
+rests p h = refl
 
 quiet_phase : (p : Phase) → not (is_leaving (next p Quiet)) ≡ true
-quiet_phase Free = refl
-quiet_phase Held = refl
-quiet_phase Live = refl
 quiet_phase Leaving = refl
+quiet_phase p = refl
 
 -- a quiet slot changes nothing where no row is leaving, and after one none is
 pub rest_none : (rs : List Record) → none_leaving rs ≡ true → map (moved Quiet) rs ≡ rs
 rest_none [] h = refl
 rest_none (r ∷ rs) h =
-    let here : next r.phase Quiet ≡ r.phase = rests r.phase (left _ _ h) in
-    let there : map (moved Quiet) rs ≡ rs = rest_none rs (right (not (is_leaving r.phase)) (none_leaving rs) h) in
+    let here : next r.phase Quiet ≡ r.phase = rests r.phase (and_parts _ _ h).0 in
+    let there : map (moved Quiet) rs ≡ rs = rest_none rs (and_parts (not (is_leaving r.phase)) (none_leaving rs) h).1 in
     rw (here, there)
 
 pub rest_calm : (rs : List Record) → none_leaving (map (moved Quiet) rs) ≡ true
 rest_calm [] = refl
-rest_calm (r ∷ rs) = both _ _ (quiet_phase r.phase) (rest_calm rs)
+rest_calm (r ∷ rs) = and_from _ _ (quiet_phase r.phase) (rest_calm rs)

@@ -1,20 +1,18 @@
 -- The counted rows of a link as the channels of a ledger.
-use Rattle.std.proofs.Common.{◌≡◌, ℕ, zero, suc, true, false, ◌⊎◌, List, [], ◌∷◌, ◌++◌, map, set, Some, sym, refl, ap, ◌∙◌, subst, inl, inr, arith}
+use Rattle.std.proofs.Common.{◌≡◌, ℕ, zero, suc, true, false, ◌⊎◌, List, [], ◌∷◌, ◌++◌, map, set, Some, sym, refl, ap, ◌∙◌, subst, inl, inr}
 use Rattle.std.proofs.lemmas.Bool.{true≢false}
 use Rattle.std.specs.List.{slice_get, AllByRecursion}
 use Rattle.schedule.proofs.Ledgers.{Entry, kinds}
 use Rattle.link.specs.declared.state.Event.TheVariants.{Quiet}
 use Rattle.link.specs.declared.state.Phase.{Phase}
-use Rattle.link.specs.declared.state.Phase.TheVariants.{Free, Held, Live, Leaving}
+use Rattle.link.specs.declared.state.Phase.TheVariants.{Free, Leaving}
 use Rattle.link.specs.Model.{FullRow, channels, on_entry}
 use Rattle.link.specs.Rows.{counts, counted, is_held, moved, next, changed}
 
 -- a quiet slot frees a row or leaves it as it is
 quiet_phase : (p : Phase) → (counts (next p Quiet) ≡ false) ⊎ (next p Quiet ≡ p)
-quiet_phase Free = inr refl
-quiet_phase Held = inr refl
-quiet_phase Live = inr refl
 quiet_phase Leaving = inl refl
+quiet_phase p = inr refl
 
 module _ {X S : Type 0} where
   -- a counted row and its channel: the same kind and state; a held row has offered nothing
@@ -45,7 +43,7 @@ module _ {X S : Type 0} where
     pub drop : (f : FullRow X S → FullRow X S) → counted (f r).entry ≡ false → Tracks (changed f i rs) (front ++ back)
 
   pub focus : {rs : List (FullRow X S)} {es : List (Entry X S)} → Tracks rs es → (i : ℕ) (r : FullRow X S) → slice_get rs i ≡ Some r → counted r.entry ≡ true → Focus rs i r es
-  focus no_rows i r h c = let z : ◌≡◌ {A = ℕ} 0 1 = cc in absurd (omega arith)
+  focus no_rows i r h c = cc
   focus (free {r = q} n t) zero r h c =
       let is : q ≡ r = cc in
       absurd (true≢false (sym c ∙ ap (λ (x : FullRow X S). counted x.entry) (sym is) ∙ n))
@@ -83,7 +81,7 @@ module _ {X S : Type 0} where
     pub put : (r : FullRow X S) (e : Entry X S) → counted r.entry ≡ true → Tracked r e → Tracks (set rs i r) (front ++ e ∷ back)
 
   pub gap : {rs : List (FullRow X S)} {es : List (Entry X S)} → Tracks rs es → (i : ℕ) (r : FullRow X S) → slice_get rs i ≡ Some r → r.entry.phase ≡ Free → Gap rs i es
-  gap no_rows i r h c = let z : ◌≡◌ {A = ℕ} 0 1 = cc in absurd (omega arith)
+  gap no_rows i r h c = cc
   gap (free {es} n t) zero r h c = record { front = []; back = es; is = refl; put = λ a e d k. taken d k t }
   gap (free n t) (suc i) r h c = let f = gap t i r h c in record { front = f.front; back = f.back; is = f.is; put = λ a e d k. free n (f.put a e d k) }
   gap (taken {r = q} n k t) zero r h c =

@@ -13,25 +13,12 @@ blank = record { mat = 0; serial = 0; phase = Free }
 -- the phase that an event leads to; where the phase does not meet the event, the same
 abbrev pub next : Phase → Event → Phase
 next Free Hold = Held
-next Free Confirm = Free
-next Free Cancel = Free
-next Free Release = Free
-next Free Quiet = Free
-next Held Hold = Held
 next Held Confirm = Live
 next Held Cancel = Free
 next Held Release = Free
-next Held Quiet = Held
-next Live Hold = Live
-next Live Confirm = Live
-next Live Cancel = Live
 next Live Release = Leaving
-next Live Quiet = Live
-next Leaving Hold = Leaving
-next Leaving Confirm = Leaving
-next Leaving Cancel = Leaving
-next Leaving Release = Leaving
 next Leaving Quiet = Free
+next p e = p
 
 -- a record moved by an event
 abbrev pub moved : Event → Record → Record
@@ -40,37 +27,28 @@ moved e r = record r { phase = next r.phase e }
 -- all but free rows are counted
 abbrev pub counts : Phase → Bool
 counts Free = false
-counts Held = true
-counts Live = true
-counts Leaving = true
+counts p = true
 
 -- only a held row can be confirmed or cancelled
 abbrev pub is_held : Phase → Bool
-is_held Free = false
 is_held Held = true
-is_held Live = false
-is_held Leaving = false
+is_held p = false
 
 -- only a live row takes packets
 abbrev pub is_live : Phase → Bool
-is_live Free = false
-is_live Held = false
 is_live Live = true
-is_live Leaving = false
+is_live p = false
 
 -- a release is for held and live rows
 abbrev pub may_release_lem : Phase → Bool
-may_release_lem Free = false
 may_release_lem Held = true
 may_release_lem Live = true
-may_release_lem Leaving = false
+may_release_lem p = false
 
 -- a released row whose packets may still be on their way
 abbrev pub is_leaving : Phase → Bool
-is_leaving Free = false
-is_leaving Held = false
-is_leaving Live = false
 is_leaving Leaving = true
+is_leaving p = false
 
 -- whether the row of this record is counted
 abbrev pub counted : Record → Bool
@@ -88,11 +66,8 @@ held_of mat serial r = r.mat == mat && (r.serial == serial && is_held r.phase)
 
 -- a release is what makes a row leave
 abbrev pub releases : Event → Bool
-releases Hold = false
-releases Confirm = false
-releases Cancel = false
 releases Release = true
-releases Quiet = false
+releases e = false
 
 -- the list with one place changed
 abbrev pub changed : {X : Type 0} → (X → X) → ℕ → List X → List X

@@ -21,6 +21,11 @@ module _ {X S : Type 0} where
   settled_at e m None = Err NoSuchRow
   settled_at e m (Some i) = Ok (moved_at e m i)
 
+  -- the row at the place given is moved
+  abbrev pub settled_place : Event → Model X S → Result ℕ Refusal → Result (Model X S) Refusal
+  settled_place e m (Err cause) = Err cause
+  settled_place e m (Ok i) = Ok (moved_at e m i)
+
   -- confirm and cancel: the held row that has this hold's numbers, on this link
   abbrev pub settled : Event → Hold → Model X S → Result (Model X S) Refusal
   settled e h m =

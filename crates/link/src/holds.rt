@@ -1,16 +1,28 @@
 // Holds: granted, confirmed, cancelled, released; and the stretch.
-ghost use Rattle.std.specs.Prelude.{◌≡◌, Bool, true, false};
+ghost use Rattle.std.specs.Prelude.{◌≡◌, ◌<◌, IfOk, Bool, true, false};
+ghost use Rattle.link.specs.declared.state.Event.{Event};
 ghost use Rattle.link.specs.Model.{model};
 ghost use Rattle.link.specs.Memory.{Kept, NothingLent, RowsOnly};
 ghost use Rattle.link.specs.Asking.{Stretches, Leasts};
 ghost use Rattle.link.specs.Holding.{Holds};
 ghost use Rattle.link.specs.Joining.{Joined};
-ghost use Rattle.link.specs.Settling.{Confirms, Cancels, Releases};
+ghost use Rattle.link.specs.Settling.{settled, settled_place, Confirms, Cancels, Releases};
 
 use crate::packets::is_mat;
 use crate::state::{Event, Hold, Link, Mat};
 use refusals::Refusal;
 use traffic::{Row, Traffic};
+
+impl Hold {
+    // A hold that was used is taken apart, since none can be dropped.
+    fn spend(self) {
+        let Hold {
+            link: _,
+            mat: _,
+            serial: _,
+        } = self;
+    }
+}
 
 impl<'a, K: Traffic> Link<'a, K> {
     // Holds a row for a mat if the counted channels pass with the new one; gives the hold and the count of points.
@@ -36,28 +48,33 @@ impl<'a, K: Traffic> Link<'a, K> {
         Ok((hold, count))
     }
 
+    // The place of the held row that has this hold.
+    fn place_of(&self, hold: &Hold) -> Result<usize, Refusal>
+        ensures said { (e : Event) → settled e hold.now (model self.now) ≡ settled_place e (model self.now) result }
+        ensures within { IfOk result (λ i. i < 32) }
+    {
+        self.opened()?;
+        if hold.link != self.name {
+            return Err(Refusal::NoSuchRow);
+        }
+        self.row_held(hold.mat, hold.serial)
+            .ok_or(Refusal::NoSuchRow)
+    }
+
     // Makes the held row of this hold live; refused, it gives the hold back.
     pub fn confirm(&mut self, hold: Hold) -> Result<(), (Refusal, Hold)>
         ensures said { Confirms (model self.old) hold result (model self.new) }
         ensures kept { Kept result self.old self.new }
         ensures lent { NothingLent self.old self.new }
     {
-        if self.shut() {
-            return Err((Refusal::Shut, hold));
+        match self.place_of(&hold) {
+            Ok(i) => {
+                hold.spend();
+                self.meet(i, Event::Confirm);
+                Ok(())
+            }
+            Err(refusal) => Err((refusal, hold)),
         }
-        if hold.link != self.name {
-            return Err((Refusal::NoSuchRow, hold));
-        }
-        let Some(i) = self.row_held(hold.mat, hold.serial) else {
-            return Err((Refusal::NoSuchRow, hold));
-        };
-        let Hold {
-            link: _,
-            mat: _,
-            serial: _,
-        } = hold;
-        self.meet(i, Event::Confirm);
-        Ok(())
     }
 
     // Holds a row and confirms the hold, which is always granted; gives the count of points.
@@ -79,12 +96,9 @@ impl<'a, K: Traffic> Link<'a, K> {
         ensures kept { Kept result self.old self.new }
         ensures lent { NothingLent self.old self.new }
     {
-        let Hold { link, mat, serial } = hold;
-        self.opened()?;
-        if link != self.name {
-            return Err(Refusal::NoSuchRow);
-        }
-        let i = self.row_held(mat, serial).ok_or(Refusal::NoSuchRow)?;
+        let place = self.place_of(&hold);
+        hold.spend();
+        let i = place?;
         self.meet(i, Event::Cancel);
         Ok(())
     }

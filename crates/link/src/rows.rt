@@ -3,7 +3,7 @@ ghost use Rattle.std.specs.Prelude.{◌≡◌, ℕ, ◌+◌, ◌<◌, ◌≤◌,
 ghost use Rattle.std.specs.List.{slice_get};
 ghost use Rattle.verdict.specs.Judged.{Judged};
 ghost use Rattle.verdict.specs.Least.{Least};
-ghost use Rattle.verdict.specs.Members.{members, present, rows_counted, size};
+ghost use Rattle.verdict.specs.Members.{members, rows_counted, size};
 ghost use Rattle.verdict.specs.Stretches.{Stretched};
 ghost use Rattle.link.specs.Holding.{Vacant, hold_of, filled};
 ghost use Rattle.link.specs.Model.{model, opened, find, channels, with_rows, on_entry, on_row};
@@ -160,18 +160,18 @@ impl<'a, K: Traffic> Link<'a, K> {
         }
     }
 
-    // The counted channels, by these marks of the counted rows, and one more or none.
-    fn channels<'b>(&'b self, counted: &'b [bool], more: Option<K>) -> Channels<'b, K, K::State>
+    // The counted channels, by these marks of the counted rows.
+    fn channels<'b>(&'b self, counted: &'b [bool]) -> Channels<'b, K, K::State>
         requires open { (model self.now).terms.shut ≡ false }
         requires marks { counted.now ≡ map counted_lem self.now.table.records }
         ensures size { size result ≡ length (model self.now).rows }
         ensures rows { rows_counted result ≡ channels (model self.now).rows }
-        ensures more { members result ≡ channels (model self.now).rows ++ present (more ∷ []) }
+        ensures members { members result ≡ channels (model self.now).rows }
     {
         Channels {
             rows: self.rows,
             counted,
-            more,
+            more: None,
         }
     }
 
@@ -181,7 +181,7 @@ impl<'a, K: Traffic> Link<'a, K> {
         ensures { Judged K.Curve.numbers K.Curve.limits self.now.longest (length (model self.now).rows) (channels (model self.now).rows ++ kind ∷ []) result }
     {
         let counted = self.table.counted();
-        self.channels(&counted, Some(kind)).judge(self.longest)
+        self.channels(&counted).with(kind).judge(self.longest)
     }
 
     // The stretch of the counted channels.
@@ -190,7 +190,7 @@ impl<'a, K: Traffic> Link<'a, K> {
         ensures { Stretched K.Curve.numbers K.Curve.limits self.now.longest (length (model self.now).rows) (channels (model self.now).rows) result }
     {
         let counted = self.table.counted();
-        self.channels(&counted, None).stretch(self.longest)
+        self.channels(&counted).stretch(self.longest)
     }
 
     // The least allowance of a kind beside the counted channels.
@@ -199,6 +199,6 @@ impl<'a, K: Traffic> Link<'a, K> {
         ensures { Least K.Curve.numbers K.Curve.limits K.Curve.dated self.now.longest (length (model self.now).rows) (channels (model self.now).rows) kind result }
     {
         let counted = self.table.counted();
-        self.channels(&counted, None).least(kind, self.longest)
+        self.channels(&counted).least(kind, self.longest)
     }
 }

@@ -1,5 +1,5 @@
 // A release: the row counts until the first quiet slot, and only then another mat gets its share.
-use refusals::Refusal;
+use crate::answers::{Told, number};
 use link::state::{Link, Mat, Packet};
 use std::io;
 use traffic::spaced::Spaced;
@@ -13,57 +13,17 @@ pub fn spaced(period: u32, longest: u32, allowance: u32) -> Spaced {
     }
 }
 
-pub fn blank() -> Packet {
-    Packet {
-        due: 0,
-        mat: 0,
-        count: 0,
-        place: 0,
-        bytes: 0,
-    }
-}
-
-// The number of an answer, 0 if it was granted.
-pub fn number(answer: Result<(), Refusal>) -> u32 {
-    match answer {
-        Ok(()) => 0,
-        Err(refusal) => refusal.number(),
-    }
-}
-
-// Holds a row and confirms it: the number, the point and the count.
-pub fn join<K: Traffic>(link: &mut Link<'_, K>, mat: Mat, kind: K) -> (u32, u32, u32) {
-    match link.hold(mat, kind) {
-        Ok((hold, count)) => match link.confirm(hold) {
-            Ok(()) => (0, 0, count),
-            Err((refusal, back)) => {
-                let _ = link.cancel(back);
-                (refusal.number(), 0, 0)
-            }
-        },
-        Err(refusal) => {
-            let (point, count) = refusal.values();
-            (refusal.number(), point, count)
-        }
-    }
-}
-
 // Prints what so many ticks carried.
 fn ticks<K: Traffic>(rt: &HostRuntime, link: &mut Link<'_, K>, n: u32) -> io::Result<()> {
     for _ in 0..n {
         let clock = link.clock();
         match link.tick() {
             Ok(None) => println!(rt; "tick at {clock}: quiet")?,
-            Ok(Some(sent)) => {
-                let mat = sent.mat;
-                let piece = sent.piece;
-                let ended = sent.ended;
-                println!(rt; "tick at {clock}: mat {mat} piece {piece} ended {ended}")?
-            }
-            Err(refusal) => {
-                let why = refusal.number();
-                println!(rt; "tick at {clock}: refused {why}")?
-            }
+            Ok(Some(sent)) => println!(rt;
+                "tick at {clock}: mat {} piece {} ended {}",
+                sent.mat, sent.piece, sent.ended
+            )?,
+            Err(refusal) => println!(rt; "tick at {clock}: refused {}", refusal.number())?,
         }
     }
     Ok(())
@@ -76,8 +36,8 @@ fn joined<K: Traffic>(
     kind: K,
 ) -> io::Result<()> {
     let clock = link.clock();
-    let (number, point, count) = join(link, mat, kind);
-    println!(rt; "hold for {mat} at {clock}: {number}, point {point}, count {count}")
+    let answer = Told(link.join(mat, kind));
+    println!(rt; "hold for {mat} at {clock}: {answer}")
 }
 
 // With no bulk packet, since it has no bytes, or with one: either way the slot at clock 10 is quiet.
@@ -91,7 +51,7 @@ fn with_bulk(rt: &HostRuntime, bytes: u32) -> io::Result<()> {
         kind: spaced(20, 5, 9),
         state: None,
     }; 4];
-    let mut places = [blank(); 8];
+    let mut places = [Packet::default(); 8];
     let mut link = Link::open(0, 5, &mut rows, &mut places);
     joined(rt, &mut link, 1, spaced(20, 5, 9))?;
     joined(rt, &mut link, 2, spaced(20, 5, 14))?;

@@ -1,6 +1,7 @@
 // The end of the clock: 2,000,000,000 ticks on an idle link, and one more.
-use crate::course::{blank, spaced};
-use link::state::Link;
+use crate::answers::number;
+use crate::course::spaced;
+use link::state::{Link, Packet};
 use std::io;
 use traffic::Row;
 
@@ -9,15 +10,12 @@ pub fn run(rt: &HostRuntime) -> io::Result<()> {
         kind: spaced(20, 5, 9),
         state: None,
     }; 32];
-    let mut places = [blank(); 256];
+    let mut places = [Packet::default(); 256];
     let mut link = Link::open(0, 5, &mut rows, &mut places);
     for _ in 0..2_000_000_000u32 {
         let _ = link.tick();
     }
-    let last = match link.tick() {
-        Ok(_) => 0,
-        Err(refusal) => refusal.number(),
-    };
+    let last = number(link.tick());
     let clock = link.clock();
     println!(rt; "tick at {clock}: {last}")
 }

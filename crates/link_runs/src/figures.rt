@@ -1,6 +1,7 @@
 // Channels joined one after the other at their least allowances, on a link whose longest packet has 4 slots.
-use crate::course::{blank, join, spaced};
-use link::state::{Link, Mat};
+use crate::answers::Told;
+use crate::course::spaced;
+use link::state::{Link, Mat, Packet};
 use std::io;
 use traffic::Row;
 use traffic::spaced::Spaced;
@@ -15,20 +16,16 @@ fn shortest(
 ) -> io::Result<()> {
     match link.least(spaced(period, longest, 0)) {
         Ok((least, forbidden)) => {
-            let (late, point, taken) = join(
-                link,
-                mat,
-                spaced(period, longest, least.wrapping_sub(1)),
-            );
-            let (number, _, count) = join(link, mat, spaced(period, longest, least));
+            let shorter = Told(link.join(mat, spaced(period, longest, least.wrapping_sub(1))));
+            let (number, count) = match link.join(mat, spaced(period, longest, least)) {
+                Ok(count) => (0, count),
+                Err(refusal) => (refusal.number(), 0),
+            };
             println!(rt;
-                "least {least} and {forbidden}; one less {late}, point {point}, count {taken}; least {number}, count {count}"
+                "least {least} and {forbidden}; one less {shorter}; least {number}, count {count}"
             )
         }
-        Err(refusal) => {
-            let why = refusal.number();
-            println!(rt; "least refused {why}")
-        }
+        Err(refusal) => println!(rt; "least refused {}", refusal.number()),
     }
 }
 
@@ -37,16 +34,13 @@ pub fn run(rt: &HostRuntime) -> io::Result<()> {
         kind: spaced(20, 5, 9),
         state: None,
     }; 4];
-    let mut places = [blank(); 8];
+    let mut places = [Packet::default(); 8];
     let mut link = Link::open(0, 4, &mut rows, &mut places);
     shortest(rt, &mut link, 1, 10, 2)?;
     shortest(rt, &mut link, 2, 8, 4)?;
     shortest(rt, &mut link, 3, 12, 3)?;
     match link.stretch() {
         Ok(slots) => println!(rt; "stretch {slots}"),
-        Err(refusal) => {
-            let why = refusal.number();
-            println!(rt; "stretch refused {why}")
-        }
+        Err(refusal) => println!(rt; "stretch refused {}", refusal.number()),
     }
 }

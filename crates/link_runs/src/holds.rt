@@ -1,7 +1,8 @@
 // Holds that no held row has: of another link, stale, of a released row.
-use crate::course::{blank, number, spaced};
+use crate::answers::number;
+use crate::course::spaced;
+use link::state::{Hold, Link, Mat, Packet};
 use refusals::Refusal;
-use link::state::{Hold, Link, Mat};
 use std::io;
 use traffic::Row;
 use traffic::spaced::Spaced;
@@ -33,10 +34,7 @@ fn foreign(
             let (confirm, cancel) = settle(here, hold);
             println!(rt; "foreign: {confirm}, {cancel}")
         }
-        Err(refusal) => {
-            let why = refusal.number();
-            println!(rt; "foreign: no hold, {why}")
-        }
+        Err(refusal) => println!(rt; "foreign: no hold, {}", refusal.number()),
     }
 }
 
@@ -45,18 +43,14 @@ fn released(rt: &HostRuntime, link: &mut Link<'_, Spaced>) -> io::Result<()> {
     match held(link, 2) {
         Ok(hold) => {
             let release = number(link.release(2));
-            let again = match held(link, 2) {
+            let (kept, _) = match held(link, 2) {
                 Ok(next) => settle(link, next),
                 Err(refusal) => (refusal.number(), 0),
             };
             let (confirm, cancel) = settle(link, hold);
-            let kept = again.0;
             println!(rt; "released: {release}, held again {kept}, stale {confirm}, {cancel}")
         }
-        Err(refusal) => {
-            let why = refusal.number();
-            println!(rt; "released: no hold, {why}")
-        }
+        Err(refusal) => println!(rt; "released: no hold, {}", refusal.number()),
     }
 }
 
@@ -66,10 +60,10 @@ pub fn run(rt: &HostRuntime) -> io::Result<()> {
         state: None,
     };
     let mut rows = [row; 2];
-    let mut places = [blank(); 2];
+    let mut places = [Packet::default(); 2];
     let mut here = Link::open(1, 5, &mut rows, &mut places);
     let mut more_rows = [row; 2];
-    let mut more_places = [blank(); 2];
+    let mut more_places = [Packet::default(); 2];
     let mut there = Link::open(2, 5, &mut more_rows, &mut more_places);
     foreign(rt, &mut here, &mut there)?;
     released(rt, &mut here)

@@ -1,6 +1,7 @@
 // Calls of links that no plan can make, with what they answer.
 #![tactic(auto)]
 
+mod answers;
 mod causes;
 mod course;
 mod end;

@@ -1,6 +1,7 @@
 // The bytes that ticks carried, of the mats' memory and of the files', and why none are handed out.
-use crate::course::{blank, join, number, spaced};
-use link::state::Link;
+use crate::answers::number;
+use crate::course::spaced;
+use link::state::{Link, Packet};
 use std::io;
 use traffic::Row;
 use traffic::spaced::Spaced;
@@ -10,16 +11,10 @@ fn show(rt: &HostRuntime, link: &Link<'_, Spaced>, mats: &[u8], files: &[u8]) ->
     match link.piece(mats, files) {
         Ok(piece) => {
             let size = piece.len();
-            let first = match piece.first() {
-                Some(byte) => *byte,
-                None => 0,
-            };
+            let first = piece.first().copied().unwrap_or(0);
             println!(rt; "piece: {size} bytes from {first}")
         }
-        Err(refusal) => {
-            let why = refusal.number();
-            println!(rt; "piece: refused {why}")
-        }
+        Err(refusal) => println!(rt; "piece: refused {}", refusal.number()),
     }
 }
 
@@ -40,10 +35,8 @@ fn carry(
 
 // Memory in which each byte is its place, above `base`.
 fn fill(memory: &mut [u8], base: u8) {
-    let mut next = base;
-    for byte in memory.iter_mut() {
-        *byte = next;
-        next = next.wrapping_add(1);
+    for (byte, place) in memory.iter_mut().zip(base..) {
+        *byte = place;
     }
 }
 
@@ -64,9 +57,9 @@ pub fn run(rt: &HostRuntime) -> io::Result<()> {
         kind: spaced(20, 5, 9),
         state: None,
     }; 2];
-    let mut places = [blank(); 4];
+    let mut places = [Packet::default(); 4];
     let mut link = Link::open(0, 5, &mut rows, &mut places);
-    let (joined, _, _) = join(&mut link, 1, spaced(20, 5, 9));
+    let joined = number(link.join(1, spaced(20, 5, 9)));
     show(rt, &link, &mats, &files)?;
     let read = number(link.offer(1, 3, 70));
     println!(rt; "joined {joined}, offered {read}")?;
