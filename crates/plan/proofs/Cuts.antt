@@ -1,7 +1,7 @@
 -- Cutting a text into lines, and putting the lines together again.
-use Rattle.std.proofs.Common.{◌≡◌, ℕ, suc, ◌+◌, ◌<◌, ◌≤◌, Bool, true, false, cond, eqb, ◌⊎◌, List, [], ◌∷◌, ◌++◌, length, take, drop, sym, refl, ap, ◌∙◌, inl, inr, ⊎_elim, append_assoc, append-nil, true-eqb, arith}
+use Rattle.std.proofs.Common.{◌≡◌, ℕ, suc, ◌+◌, ◌<◌, ◌≤◌, Bool, true, false, cond, eqb, ◌⊎◌, List, [], ◌∷◌, ◌++◌, length, take, drop, sym, refl, ap, ◌∙◌, inl, inr, ⊎_elim, append_assoc, true-eqb, arith}
 use Rattle.std.proofs.lemmas.Bool.{cond-false}
-use Rattle.std.proofs.lemmas.List.{drop_more, get_or-take, length-take-le, take-append-drop}
+use Rattle.std.proofs.lemmas.List.{drop_more, flat_map_more, get_or-take, length-take-le, take-append-drop}
 use Rattle.std.proofs.lemmas.List.Elements.{recursion_from_All}
 use Rattle.std.specs.List.{onto_first, AllByRecursion, AllWithin, HoldsAt}
 use Rattle.plan.specs.Format.{cut, ended}
@@ -79,9 +79,7 @@ ended_cut (b ∷ bs) = by_byte (eqb b 10) refl (ended_cut bs)
     by_byte false e p = onto_ended b bs (cut bs) p
 
 pub ended_more : (ls : List (List ℕ)) (l : List ℕ) → ended (ls ++ (l ∷ [])) ≡ ended ls ++ (l ++ (10 ∷ []))
-ended_more [] l = append-nil (l ++ (10 ∷ []))
-ended_more (k ∷ ls) l =
-    ap (λ x. (k ++ (10 ∷ [])) ++ x) (ended_more ls l) ∙ sym (append_assoc (k ++ (10 ∷ [])) (ended ls) (l ++ (10 ∷ [])))
+ended_more ls l = sym (flat_map_more (λ k. k ++ (10 ∷ [])) [] ls l)
 
 -- a text has no more lines than bytes
 pub length-cut_le : (bs : List ℕ) → length (cut bs) ≤ length bs
