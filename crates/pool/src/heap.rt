@@ -1,4 +1,4 @@
-// A heap in the first places of a slice, mended along one path. The children of the place i are i * 2 + 1 and i * 2 + 2.
+// A heap in a slice, mended along one path. The children of the place i are i * 2 + 1 and i * 2 + 2.
 ghost use Rattle.std.specs.Prelude.{◌≡◌, ◌+◌, ◌-◌, ◌*◌, ◌<◌, ◌≤◌, ◌∷◌, length, take, drop, Some, IfSome};
 ghost use Rattle.std.specs.List.Sorted.{IsPermutation};
 ghost use Rattle.pool.specs.Heap.{Heap, Sinking, Best};
@@ -16,6 +16,7 @@ pub fn first<T: Ordered>(s: &[T]) -> Option<T>
 }
 
 // Adds the element in the last place; the others are a heap.
+#[tactic(auto, using(crate::proofs::Ends::last_written, crate::proofs::Bags::insert_bag))]
 pub fn insert<T: Ordered>(s: &mut [T], element: T)
     requires some { 0 < length s.old }
     requires heap { Heap T.Ordered.before s.old (length s.old - 1) }
@@ -28,6 +29,7 @@ pub fn insert<T: Ordered>(s: &mut [T], element: T)
 }
 
 // Removes the element in place 0 from the heap: the others are a heap without the last place.
+#[tactic(auto, using(crate::proofs::Ends::root_written, crate::proofs::Bags::remove_bag))]
 pub fn remove_first<T: Ordered>(s: &mut [T]) -> T
     requires some { 0 < length s.old }
     requires heap { Heap T.Ordered.before s.old (length s.old) }

@@ -96,6 +96,7 @@ impl<'a, T: Ordered> Pool<'a, T> {
     }
 
     // Removes an element that no other precedes. The last one moves down one path of the heap: O(log n).
+    #[tactic(auto, using(crate::proofs::Bags::last_kept))]
     pub fn take(&mut self) -> Option<T>
         ensures next { result ≡ next self.old }
         ensures taken { Taken T.Ordered.before self.old self.new result }
