@@ -1,6 +1,6 @@
 -- Some lawful list of a bucket meets the curve.
 use Rattle.std.specs.Prelude.{◌≡◌, ℕ, zero, suc, ◌+◌, ◌-◌, ◌*◌, ◌/◌, ◌<◌, ◌≤◌, max, cond, ◌&&◌, List, [], ◌∷◌, nat_le}
-use Rattle.std.proofs.Common.{sym, ap, ◌∙◌, ⊎_elim, le_refl, zero-add, suc-mul, zero-mul, mul-suc, mul-add, mul-le-mul_left, arith}
+use Rattle.std.proofs.Common.{sym, ap, ◌∙◌, ⊎_elim, le_refl, zero-add, mul-add, mul-le-mul_left, arith}
 use Rattle.std.proofs.lemmas.Bool.{cases_lt}
 use Rattle.std.proofs.lemmas.Bool.Decides.{nat_tests}
 use Rattle.traffic.specs.Arrivals.{Arrival, Taken, demand}
@@ -30,9 +30,9 @@ every_period_taken T C b pos (suc n) z a s h k =
 
 pub at_once_taken : (T C b : ℕ) → 1 ≤ C → (n j z : ℕ) → z + j * T ≤ (b - 1) * T → Taken (bucket_step T C b) z 0 (at_once C j (every_period T C 0 n))
 unfolding at_once
-at_once_taken T C b pos n zero z h = every_period_taken T C b pos n z 0 0 (le_refl 0) (omega (arith, zero-mul T))
+at_once_taken T C b pos n zero z h = every_period_taken T C b pos n z 0 0 (le_refl 0) (omega arith)
 at_once_taken T C b pos n (suc j) z h =
-    (max z 0 + T, le_refl 0, is_taken T C b z 0 C pos (le_refl C) (omega arith), at_once_taken T C b pos n j (max z 0 + T) (omega (arith, suc-mul j T)))
+    (max z 0 + T, le_refl 0, is_taken T C b z 0 C pos (le_refl C) (omega arith), at_once_taken T C b pos n j (max z 0 + T) (omega arith))
 
 -- Its demand from slot 0 is the curve, as far as the list goes.
 
@@ -44,11 +44,11 @@ not_due_counts_not C d s u h = grind (arith, nat_tests)
 
 every_period_demand : (T C d u : ℕ) → 1 ≤ T → (n s : ℕ) → u < s + d + n * T → demand d 0 u (every_period T C s n) ≡ staircase T C 1 (s + d) u
 unfolding every_period
-every_period_demand T C d u pos zero s h = sym (staircase_before T C 1 (s + d) u (omega (arith, zero-mul T)))
+every_period_demand T C d u pos zero s h = sym (staircase_before T C 1 (s + d) u (omega arith))
 every_period_demand T C d u pos (suc n) s h =
     let same : (s + T) + d ≡ (s + d) + T = omega arith in
     let rest : demand d 0 u (every_period T C (s + T) n) ≡ staircase T C 1 ((s + d) + T) u =
-    every_period_demand T C d u pos n (s + T) (omega (arith, suc-mul n T)) ∙ ap (λ x. staircase T C 1 x u) same in
+    every_period_demand T C d u pos n (s + T) (omega arith) ∙ ap (λ x. staircase T C 1 x u) same in
     ⊎_elim
     (λ lt. omega (arith, not_due_counts_not C d s u lt, staircase_before T C 1 (s + d) u lt, staircase_before T C 1 ((s + d) + T) u (omega arith)))
     (λ le. omega (arith, due_counts C d s u le, staircase_next_stair T C (s + d) u pos le))
@@ -57,7 +57,7 @@ every_period_demand T C d u pos (suc n) s h =
 at_once_demand : (C d u : ℕ) → d ≤ u → (j : ℕ) (ps : List Arrival) → demand d 0 u (at_once C j ps) ≡ C * j + demand d 0 u ps
 unfolding at_once
 at_once_demand C d u h zero ps = omega arith
-at_once_demand C d u h (suc j) ps = omega (arith, due_counts C d 0 u (omega arith), at_once_demand C d u h j ps, mul-suc C j)
+at_once_demand C d u h (suc j) ps = omega (arith, due_counts C d 0 u (omega arith), at_once_demand C d u h j ps)
 
 pub meets_curve : (T C b d t u : ℕ) → 1 ≤ T → 1 ≤ b → u ≤ t → demand d 0 u (at_once C (b - 1) (every_period T C 0 (suc t))) ≡ staircase T C b d u
 meets_curve T C b d t u pos deep h =

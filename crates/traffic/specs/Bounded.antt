@@ -1,8 +1,9 @@
 -- What a lawful list of a bucket asks for never exceeds the curve.
 use Rattle.std.specs.Prelude.{◌≡◌, ℕ, ◌+◌, ◌-◌, ◌*◌, ◌/◌, ◌≤◌, Bool, cond, ◌&&◌, ◌⊎◌, List, [], ◌∷◌, nat_le, refl}
-use Rattle.std.proofs.Common.{sym, ap, subst, ◌∙◌, inl, inr, ⊎_elim, zero-mul, mul-add, add-mul, mul-le-mul_left, arith}
+use Rattle.std.proofs.Common.{sym, ap, subst, ◌∙◌, inl, inr, ⊎_elim, zero-mul, add-mul, mul-le-mul_left, arith}
 use Rattle.std.proofs.Math.Nat.{add-mul-div_right}
-use Rattle.std.proofs.lemmas.Bool.{cases_lt, cases_Bool, cond-true, cond-false, and_parts, leb-true}
+use Rattle.std.proofs.lemmas.Bool.Decides.{nat_tests}
+use Rattle.std.proofs.lemmas.Bool.{cases_lt, cases_Bool, cond-true, cond-false}
 use Rattle.std.proofs.lemmas.Nat.{le-div}
 use Rattle.traffic.specs.Arrivals.{Arrival, Taken, demand}
 use Rattle.traffic.specs.Bucket.{bucket_step}
@@ -20,12 +21,9 @@ room_one_more : (T C b d a t z z' s l D k : ℕ) → d ≤ t → l ≤ C → z +
 room_one_more T C b d a t z z' s l D k hd hl up far hz hD room =
     ⊎_elim
     (λ in_window.
-    let x = and_parts (nat_le a s) (nat_le (s + d) (a + t)) in_window in
     let e : cond test l 0 ≡ l = cond-true test l 0 in_window in
-    let lo : a ≤ s = leb-true a s x.0 in
-    let hi : s + d ≤ a + t = leb-true (s + d) (a + t) x.1 in
-    let m : C * (k + 1) ≡ C * k + C * 1 = mul-add C k 1 in
-    let n : (k + 1) * T ≡ k * T + 1 * T = add-mul k 1 T in (
+    let lo : a ≤ s = grind (arith, nat_tests) in
+    let hi : s + d ≤ a + t = grind (arith, nat_tests) in (
       k + 1,
       omega arith,
       inr (⊎_elim

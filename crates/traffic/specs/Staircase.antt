@@ -1,6 +1,6 @@
 -- The staircase: 0 before d, C * b at d, and C more every T slots.
 use Rattle.std.specs.Prelude.{◌≡◌, ℕ, ◌+◌, ◌-◌, ◌*◌, ◌/◌, ◌%◌, ◌<◌, ◌≤◌, Some, ◌==◌, nat_lt}
-use Rattle.std.proofs.Common.{sym, ap, ◌∙◌, ⊎_elim, div-add-mod', mul-add, add-mul, mul-le-mul, mul-le-mul_left, mul_comm, mul_assoc, div-mul-le_self, div-le_self, mul-div_cancel, le_refl, arith}
+use Rattle.std.proofs.Common.{sym, ap, ◌∙◌, ⊎_elim, div-add-mod', mul-add, mul-le-mul, mul-le-mul_left, mul_comm, mul_assoc, div-mul-le_self, div-le_self, mul-div_cancel, le_refl, arith}
 use Rattle.std.proofs.Math.Nat.{add-mul-div_left, div-eq_of_eq-mul_left, div-eq-sub-div, div-eq_of_lt, div-eq_of_lt-le, lt-div-mul-add}
 use Rattle.std.proofs.lemmas.Bool.{cases_lt, cond-true, cond-false, lt-ltb, le-ltb, ne_eqb}
 use Rattle.std.proofs.lemmas.Nat.{le-div}
@@ -69,13 +69,11 @@ staircase_under_line T C b d n pos div =
     let q : ℕ = 5040 / T in
     let k : ℕ = n / T in
     let x : q * (k * T) ≤ q * n = mul-le-mul_left q (div-mul-le_self n T) in
-    let y : q * (k * T) ≡ 5040 * k = ap (λ x. q * x) (mul_comm k T) ∙ sym (mul_assoc q T k) ∙ ap (λ x. x * k) (frame_periods T div) in
+    let y : q * T * k ≡ 5040 * k = ap (λ x. x * k) (frame_periods T div) in
     let z : 5040 * k ≤ q * n = omega arith in
     let e : C * (5040 * k) ≤ C * (q * n) = mul-le-mul_left C z in
-    let f : C * (5040 * k) ≡ 5040 * (C * k) = sym (mul_assoc C 5040 k) ∙ ap (λ x. x * k) (mul_comm C 5040) ∙ mul_assoc 5040 C k in
-    let g : C * (q * n) ≡ n * (C * 5040 / T) = sym (mul_assoc C q n) ∙ mul_comm (C * q) n ∙ ap (λ x. n * x) (sym (work_periods T C pos div)) in
-    let h : staircase T C b d (d + n) ≡ C * k + C * b = staircase_after T C b d n ∙ mul-add C k b in
-    omega (arith, mul_comm C b)
+    let g : n * (C * 5040 / T) ≡ n * (C * q) = ap (λ x. n * x) (work_periods T C pos div) in
+    omega (arith, staircase_after T C b d n)
 
 -- A staircase of one stair more at its front.
 
@@ -90,7 +88,7 @@ staircase_next_stair T C d u pos h =
     let same : (u - d) - T ≡ u - (d + T) = omega arith in
     let z : (u - d) / T ≡ (u - (d + T)) / T + 1 = div-eq-sub-div pos (omega arith) ∙ ap (λ x. x / T + 1) same in
     let e : C * ((u - d) / T + 1) ≡ C * ((u - (d + T)) / T + 1 + 1) = ap (λ x. C * (x + 1)) z in
-    omega (arith, staircase_from T C 1 (d + T) u le, staircase_from T C 1 d u h, mul-add C ((u - (d + T)) / T + 1) 1))
+    omega (arith, staircase_from T C 1 (d + T) u le, staircase_from T C 1 d u h))
     (cases_lt u (d + T))
 
 -- It rises first at d, and from there on next where the quotient grows.
@@ -105,16 +103,13 @@ pub later_rise : (T C b d t : ℕ) → 1 ≤ T → 1 ≤ C → d ≤ t → NextR
 later_rise T C b d t pos some h =
     let q : ℕ = (t - d) / T in
     let u : ℕ = d + (q + 1) * T in
-    let up : (q + 1) * T ≡ q * T + 1 * T = add-mul q 1 T in
     let lo : q * T ≤ t - d = div-mul-le_self (t - d) T in
     let hi : t - d < q * T + T = lt-div-mul-add pos in
     let level : (v : ℕ) → t ≤ v → v < u → staircase T C b d v ≡ C * (q + b) =
     λ v l m.
     let e : (v - d) / T ≡ q = div-eq_of_lt-le T (omega arith) (omega arith) in
     staircase_from T C b d v (omega arith) ∙ ap (λ x. C * (x + b)) e in
-    let at : staircase T C b d u ≡ C * ((q + 1) + b) = staircase_after T C b d ((q + 1) * T) ∙ ap (λ x. C * (x + b)) (mul-div_cancel (q + 1) pos) in
-    let same : (q + 1) + b ≡ (q + b) + 1 = omega arith in
-    let more : C * ((q + 1) + b) ≡ C * (q + b) + C * 1 = ap (λ x. C * x) same ∙ mul-add C (q + b) 1 in (
+    let at : staircase T C b d u ≡ C * ((q + 1) + b) = staircase_after T C b d ((q + 1) * T) ∙ ap (λ x. C * (x + b)) (mul-div_cancel (q + 1) pos) in (
       omega arith,
       omega (arith, before_later (staircase T C b d) u (omega arith), level (u - 1) (omega arith) (omega arith)),
       λ v l m. flat_no_rise (staircase T C b d) v (omega arith) (level v (omega arith) m ∙ sym (level (v - 1) (omega arith) (omega arith))),
