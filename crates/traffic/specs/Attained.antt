@@ -1,6 +1,6 @@
 -- Some lawful list of a bucket meets the curve.
 use Rattle.std.specs.Prelude.{◌≡◌, ℕ, zero, suc, ◌+◌, ◌-◌, ◌*◌, ◌/◌, ◌<◌, ◌≤◌, max, cond, ◌&&◌, List, [], ◌∷◌, nat_le}
-use Rattle.std.proofs.Common.{sym, ap, ◌∙◌, ⊎_elim, le_refl, zero-add, mul-add, mul-le-mul_left, arith}
+use Rattle.std.proofs.Common.{sym, ap, ◌∙◌, ⊎_elim, le_refl, zero-add, mul-le-mul_left, arith}
 use Rattle.std.proofs.lemmas.Bool.{cases_lt}
 use Rattle.std.proofs.lemmas.Bool.Decides.{nat_tests}
 use Rattle.traffic.specs.Arrivals.{Arrival, Taken, demand}
@@ -65,9 +65,8 @@ meets_curve T C b d t u pos deep h =
     (λ lt. no_demand d 0 u lt (at_once C (b - 1) (every_period T C 0 (suc t))) ∙ sym (staircase_before T C b d u lt))
     (λ le.
     let q : ℕ = (u - d) / T in
-    let whole : (b - 1) + (q + 1) ≡ q + b = omega arith in
+    let whole : C * ((b - 1) + (q + 1)) ≡ C * (q + b) = ap (λ x. C * x) (omega arith) in
     let rest : demand d 0 u (every_period T C 0 (suc t)) ≡ staircase T C 1 d u =
     every_period_demand T C d u pos (suc t) 0 (omega (arith, mul-le-mul_left (suc t) pos)) ∙ ap (λ x. staircase T C 1 x u) (zero-add d) in
-    at_once_demand C d u le (b - 1) (every_period T C 0 (suc t)) ∙ ap (λ x. C * (b - 1) + x) (rest ∙ staircase_from T C 1 d u le)
-    ∙ sym (mul-add C (b - 1) (q + 1)) ∙ ap (λ x. C * x) whole ∙ sym (staircase_from T C b d u le))
+    omega (arith, at_once_demand C d u le (b - 1) (every_period T C 0 (suc t)), staircase_from T C 1 d u le, staircase_from T C b d u le))
     (cases_lt u d)

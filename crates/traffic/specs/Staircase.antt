@@ -1,6 +1,6 @@
 -- The staircase: 0 before d, C * b at d, and C more every T slots.
 use Rattle.std.specs.Prelude.{◌≡◌, ℕ, ◌+◌, ◌-◌, ◌*◌, ◌/◌, ◌%◌, ◌<◌, ◌≤◌, Some, ◌==◌, nat_lt}
-use Rattle.std.proofs.Common.{sym, ap, ◌∙◌, ⊎_elim, div-add-mod', mul-add, mul-le-mul, mul-le-mul_left, mul_comm, mul_assoc, div-mul-le_self, div-le_self, mul-div_cancel, le_refl, arith}
+use Rattle.std.proofs.Common.{sym, ap, ◌∙◌, ⊎_elim, div-add-mod', mul-le-mul, mul-le-mul_left, mul_comm, mul_assoc, div-mul-le_self, div-le_self, mul-div_cancel, le_refl, arith}
 use Rattle.std.proofs.Math.Nat.{add-mul-div_left, div-eq_of_eq-mul_left, div-eq-sub-div, div-eq_of_lt, div-eq_of_lt-le, lt-div-mul-add}
 use Rattle.std.proofs.lemmas.Bool.{cases_lt, cond-true, cond-false, lt-ltb, le-ltb, ne_eqb}
 use Rattle.std.proofs.lemmas.Nat.{le-div}
@@ -57,10 +57,8 @@ staircase_repeats T C b d t pos div h =
     let q : ℕ = 5040 / T in
     let far : (t + 5040) - d ≡ (t - d) + T * q = omega (arith, frame_periods T div, mul_comm q T) in
     let e : ((t + 5040) - d) / T ≡ (t - d) / T + q = ap (λ x. x / T) far ∙ add-mul-div_left (t - d) q pos in
-    let s : ((t + 5040) - d) / T + b ≡ ((t - d) / T + b) + q = omega arith in
-    let l : d ≤ t + 5040 = omega arith in
-    staircase_from T C b d (t + 5040) l ∙ ap (λ x. C * x) s ∙ mul-add C ((t - d) / T + b) q
-    ∙ ap (λ x. x + C * q) (sym (staircase_from T C b d t h)) ∙ ap (λ x. staircase T C b d t + x) (sym (work_periods T C pos div))
+    let s : C * (((t + 5040) - d) / T + b) ≡ C * (((t - d) / T + b) + q) = ap (λ x. C * (x + b)) e ∙ ap (λ x. C * x) (omega arith) in
+    omega (arith, staircase_from T C b d (t + 5040) (omega arith), staircase_from T C b d t h, work_periods T C pos div)
 
 -- It stays under the straight line from b * C that climbs by the work in each frame.
 
