@@ -1,6 +1,6 @@
 -- Some lawful list of a bucket meets the curve.
 use Rattle.std.specs.Prelude.{◌≡◌, ℕ, zero, suc, ◌+◌, ◌-◌, ◌*◌, ◌/◌, ◌<◌, ◌≤◌, max, cond, ◌&&◌, List, [], ◌∷◌, nat_le}
-use Rattle.std.proofs.Common.{sym, ap, ◌∙◌, ⊎_elim, le_refl, zero-add, mul-le-mul_left, arith}
+use Rattle.std.proofs.Common.{sym, ap, ◌∙◌, inl, inr, le_refl, zero-add, mul-le-mul_left, arith}
 use Rattle.std.proofs.lemmas.Bool.{cases_lt}
 use Rattle.std.proofs.lemmas.Bool.Decides.{nat_tests}
 use Rattle.traffic.specs.Arrivals.{Arrival, Taken, demand}
@@ -49,10 +49,10 @@ every_period_demand T C d u pos (suc n) s h =
     let same : (s + T) + d ≡ (s + d) + T = omega arith in
     let rest : demand d 0 u (every_period T C (s + T) n) ≡ staircase T C 1 ((s + d) + T) u =
     every_period_demand T C d u pos n (s + T) (omega arith) ∙ ap (λ x. staircase T C 1 x u) same in
-    ⊎_elim
-    (λ lt. omega (arith, not_due_counts_not C d s u lt, staircase_before T C 1 (s + d) u lt, staircase_before T C 1 ((s + d) + T) u (omega arith)))
-    (λ le. omega (arith, due_counts C d s u le, staircase_next_stair T C (s + d) u pos le))
-    (cases_lt u (s + d))
+    elim (cases_lt u (s + d)) [
+      | inl lt ↦ omega (arith, not_due_counts_not C d s u lt, staircase_before T C 1 (s + d) u lt, staircase_before T C 1 ((s + d) + T) u (omega arith))
+      | inr le ↦ omega (arith, due_counts C d s u le, staircase_next_stair T C (s + d) u pos le)
+    ]
 
 at_once_demand : (C d u : ℕ) → d ≤ u → (j : ℕ) (ps : List Arrival) → demand d 0 u (at_once C j ps) ≡ C * j + demand d 0 u ps
 unfolding at_once
@@ -60,13 +60,12 @@ at_once_demand C d u h zero ps = omega arith
 at_once_demand C d u h (suc j) ps = omega (arith, due_counts C d 0 u (omega arith), at_once_demand C d u h j ps)
 
 pub meets_curve : (T C b d t u : ℕ) → 1 ≤ T → 1 ≤ b → u ≤ t → demand d 0 u (at_once C (b - 1) (every_period T C 0 (suc t))) ≡ staircase T C b d u
-meets_curve T C b d t u pos deep h =
-    ⊎_elim
-    (λ lt. no_demand d 0 u lt (at_once C (b - 1) (every_period T C 0 (suc t))) ∙ sym (staircase_before T C b d u lt))
-    (λ le.
-    let q : ℕ = (u - d) / T in
-    let whole : C * ((b - 1) + (q + 1)) ≡ C * (q + b) = ap (λ x. C * x) (omega arith) in
-    let rest : demand d 0 u (every_period T C 0 (suc t)) ≡ staircase T C 1 d u =
-    every_period_demand T C d u pos (suc t) 0 (omega (arith, mul-le-mul_left (suc t) pos)) ∙ ap (λ x. staircase T C 1 x u) (zero-add d) in
-    omega (arith, at_once_demand C d u le (b - 1) (every_period T C 0 (suc t)), staircase_from T C 1 d u le, staircase_from T C b d u le))
-    (cases_lt u d)
+meets_curve T C b d t u pos deep h = elim (cases_lt u d) [
+  | inl lt ↦ no_demand d 0 u lt (at_once C (b - 1) (every_period T C 0 (suc t))) ∙ sym (staircase_before T C b d u lt)
+  | inr le ↦
+      let q : ℕ = (u - d) / T in
+      let whole : C * ((b - 1) + (q + 1)) ≡ C * (q + b) = ap (λ x. C * x) (omega arith) in
+      let rest : demand d 0 u (every_period T C 0 (suc t)) ≡ staircase T C 1 d u =
+      every_period_demand T C d u pos (suc t) 0 (omega (arith, mul-le-mul_left (suc t) pos)) ∙ ap (λ x. staircase T C 1 x u) (zero-add d) in
+      omega (arith, at_once_demand C d u le (b - 1) (every_period T C 0 (suc t)), staircase_from T C 1 d u le, staircase_from T C b d u le)
+]

@@ -1,6 +1,6 @@
 -- The staircase: 0 before d, C * b at d, and C more every T slots.
 use Rattle.std.specs.Prelude.{◌≡◌, ℕ, ◌+◌, ◌-◌, ◌*◌, ◌/◌, ◌%◌, ◌<◌, ◌≤◌, Some, ◌==◌, nat_lt}
-use Rattle.std.proofs.Common.{sym, ap, ◌∙◌, ⊎_elim, div-add-mod', mul-le-mul, mul-le-mul_left, mul_comm, mul_assoc, div-mul-le_self, div-le_self, mul-div_cancel, le_refl, arith}
+use Rattle.std.proofs.Common.{sym, ap, ◌∙◌, inl, inr, div-add-mod', mul-le-mul, mul-le-mul_left, mul_comm, mul_assoc, div-mul-le_self, div-le_self, mul-div_cancel, le_refl, arith}
 use Rattle.std.proofs.Math.Nat.{add-mul-div_left, div-eq_of_eq-mul_left, div-eq-sub-div, div-eq_of_lt, div-eq_of_lt-le, lt-div-mul-add}
 use Rattle.std.proofs.lemmas.Bool.{cases_lt, cond-true, cond-false, lt-ltb, le-ltb, ne_eqb}
 use Rattle.std.proofs.lemmas.Nat.{le-div}
@@ -38,14 +38,13 @@ quotient_never_falls : (T m n : ℕ) → 1 ≤ T → m ≤ n → m / T ≤ n / T
 quotient_never_falls T m n pos h = le-div (m / T) n T pos (omega (arith, div-mul-le_self m T))
 
 pub staircase_never_falls : (T C b d t u : ℕ) → 1 ≤ T → t ≤ u → staircase T C b d t ≤ staircase T C b d u
-staircase_never_falls T C b d t u pos h =
-    ⊎_elim
-    (λ lt. omega (arith, staircase_before T C b d t lt))
-    (λ le.
-    let q : (t - d) / T + b ≤ (u - d) / T + b = omega (arith, quotient_never_falls T (t - d) (u - d) pos (omega arith)) in
-    let l : d ≤ u = omega arith in
-    omega (arith, staircase_from T C b d t le, staircase_from T C b d u l, mul-le-mul_left C q))
-    (cases_lt t d)
+staircase_never_falls T C b d t u pos h = elim (cases_lt t d) [
+  | inl lt ↦ omega (arith, staircase_before T C b d t lt)
+  | inr le ↦
+      let q : (t - d) / T + b ≤ (u - d) / T + b = omega (arith, quotient_never_falls T (t - d) (u - d) pos (omega arith)) in
+      let l : d ≤ u = omega arith in
+      omega (arith, staircase_from T C b d t le, staircase_from T C b d u l, mul-le-mul_left C q)
+]
 
 pub staircase_starts : (T C b d : ℕ) → 1 ≤ b → C ≤ staircase T C b d d
 staircase_starts T C b d h =
@@ -76,18 +75,17 @@ staircase_under_line T C b d n pos div =
 -- A staircase of one stair more at its front.
 
 pub staircase_next_stair : (T C d u : ℕ) → 1 ≤ T → d ≤ u → C + staircase T C 1 (d + T) u ≡ staircase T C 1 d u
-staircase_next_stair T C d u pos h =
-    ⊎_elim
-    (λ lt.
-    let z : (u - d) / T ≡ 0 = div-eq_of_lt (omega arith) in
-    let e : C * ((u - d) / T + 1) ≡ C * 1 = ap (λ x. C * (x + 1)) z in
-    omega (arith, staircase_before T C 1 (d + T) u lt, staircase_from T C 1 d u h))
-    (λ le.
-    let same : (u - d) - T ≡ u - (d + T) = omega arith in
-    let z : (u - d) / T ≡ (u - (d + T)) / T + 1 = div-eq-sub-div pos (omega arith) ∙ ap (λ x. x / T + 1) same in
-    let e : C * ((u - d) / T + 1) ≡ C * ((u - (d + T)) / T + 1 + 1) = ap (λ x. C * (x + 1)) z in
-    omega (arith, staircase_from T C 1 (d + T) u le, staircase_from T C 1 d u h))
-    (cases_lt u (d + T))
+staircase_next_stair T C d u pos h = elim (cases_lt u (d + T)) [
+  | inl lt ↦
+      let z : (u - d) / T ≡ 0 = div-eq_of_lt (omega arith) in
+      let e : C * ((u - d) / T + 1) ≡ C * 1 = ap (λ x. C * (x + 1)) z in
+      omega (arith, staircase_before T C 1 (d + T) u lt, staircase_from T C 1 d u h)
+  | inr le ↦
+      let same : (u - d) - T ≡ u - (d + T) = omega arith in
+      let z : (u - d) / T ≡ (u - (d + T)) / T + 1 = div-eq-sub-div pos (omega arith) ∙ ap (λ x. x / T + 1) same in
+      let e : C * ((u - d) / T + 1) ≡ C * ((u - (d + T)) / T + 1 + 1) = ap (λ x. C * (x + 1)) z in
+      omega (arith, staircase_from T C 1 (d + T) u le, staircase_from T C 1 d u h)
+]
 
 -- It rises first at d, and from there on next where the quotient grows.
 
