@@ -11,6 +11,7 @@ pub fn number<T: Drop>(answer: Result<T, Refusal>) -> u32 {
 }
 
 // What joining a channel answers: the number, the point and the count.
+#[derive(Clone, Copy)]
 pub struct Told(pub Result<u32, Refusal>);
 
 impl fmt::Display for Told {
