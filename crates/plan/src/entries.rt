@@ -23,7 +23,7 @@ pub(crate) trait Entry: Copy {
         ensures { Reads words (Fits words mats) (letter, numbers.now) result };
 }
 
-// The longest packet of the link.
+// The longest packet of the link, which has a line of its own as the entries have.
 #[derive(Clone, Copy)]
 pub(crate) struct Longest {
     pub(crate) slots: u32,
