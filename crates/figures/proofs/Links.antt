@@ -1,5 +1,5 @@
 -- From one computed test to what every link with these counted channels answers.
-use Rattle.std.proofs.Common.{◌≡◌, ℕ, ◌+◌, ◌-◌, ◌≤◌, Bool, true, false, ◌&&◌, eqb, ltb, leb, List, [], ◌∷◌, ◌++◌, length, Some, Err, Option, Result, refl, ap, ◌∙◌, subst, subst₂, arith}
+use Rattle.std.proofs.Common.{◌≡◌, ℕ, ◌+◌, ◌-◌, ◌≤◌, Bool, true, false, ◌&&◌, eqb, ltb, leb, List, [], ◌∷◌, ◌++◌, length, Some, Ok, Err, Option, Result, refl, ap, ◌∙◌, subst, subst₂, arith}
 use Rattle.std.proofs.ByRecursion.{All-weaker}
 use Rattle.std.proofs.lemmas.Bool.{and_parts, leb-true, ltb-true, eqb-true, cond-false, and_right}
 use Rattle.traffic.specs.Laws.{CurveLaws}
@@ -9,15 +9,15 @@ use Rattle.verdict.specs.Least.{Least, beside}
 use Rattle.verdict.specs.Passes.{Passes}
 use Rattle.verdict.specs.Points.{rises}
 use Rattle.verdict.specs.Stretches.{Stretched, stretch_of}
-use Rattle.verdict.specs.declared.Verdict.{Verdict}
-use Rattle.verdict.specs.declared.Verdict.TheVariants.{Granted, Overloaded as Heavy, Late as Fails}
+use Rattle.verdict.specs.declared.Unfit.{Unfit}
+use Rattle.verdict.specs.declared.Unfit.TheVariants.{Overloaded as Heavy, Late as Fails}
 use Rattle.verdict.proofs.Lengthening.{beside_judgeable}
 use Rattle.link.specs.Asking.{StretchUnless, LeastUnless, Told}
 use Rattle.link.specs.Holding.{Holds, HeldOr, Decided, hold_cause}
 use Rattle.link.specs.Packets.{is_mat_lem}
-use Rattle.link.specs.Refusals.{decided}
-use Rattle.link.specs.declared.refusals.Refusal.{Refusal}
-use Rattle.link.specs.declared.refusals.Refusal.TheVariants.{Limits, Overloaded, Late}
+use Rattle.refusals.specs.Refusals.{decided}
+use Rattle.refusals.specs.declared.Refusal.{Refusal}
+use Rattle.refusals.specs.declared.Refusal.TheVariants.{Limits, Overloaded, Late}
 use Rattle.link.specs.declared.state.Hold.{Hold}
 use Rattle.figures.specs.Answers.{Link, Refuses, Counting, Judges, RefusedOn, GrantedOn, LeastOn, StretchOn}
 use Rattle.figures.specs.Kinds.{Kind, numbers, limits, dated, steps}
@@ -54,7 +54,7 @@ grant_parts p rows few n ks h =
     (j, passes_judgeable p rows n ks j a.1)
 
 -- the verdict that a granted hold has in a history
-pub granting : (p rows : ℕ) → rows ≤ 32 → (n : ℕ) (ks : List Kind) → grant_test p n ks ≡ true → (count : ℕ) × Judged numbers limits p rows ks (Granted count)
+pub granting : (p rows : ℕ) → rows ≤ 32 → (n : ℕ) (ks : List Kind) → grant_test p n ks ≡ true → (count : ℕ) × Judged numbers limits p rows ks (Ok count)
 granting p rows few n ks h = let (j, passes) = grant_parts p rows few n ks h in grant numbers limits p rows ks j shaped passes
 
 -- What a hold comes to.
@@ -69,13 +69,13 @@ module _ (p : ℕ) (ks : List Kind) (k : Kind) where
 
   -- a hold that nothing refuses before is decided by the verdict
   judged_by : (m : Link) → Counting p ks m → (mat : ℕ) → Judges m mat k → (r : Result (Hold × ℕ) Refusal) (o : Link) → Holds numbers limits steps m mat k r o →
-      (v : Verdict) × Judged numbers limits p (length m.rows) judged v × Decided numbers limits steps (decided v) m mat k r o
+      (v : Result ℕ Unfit) × Judged numbers limits p (length m.rows) judged v × Decided numbers limits steps (decided v) m mat k r o
   judged_by m c mat none r o holds =
       let (v, judges, decides) = subst (λ (x : Option Refusal). HeldOr numbers limits steps x m mat k r o) none holds in
       (v, subst₂ (λ (q : ℕ) (cs : List Kind). Judged numbers limits q (length m.rows) (cs ++ k ∷ []) v) c.longest c.counted judges, decides)
 
   -- where the verdict can only be one refusal, so is the answer
-  refused_only : (v : Verdict) (e : Refusal) → decided v ≡ Err e → ((rows : ℕ) → rows ≤ 32 → (w : Verdict) → Judged numbers limits p rows judged w → w ≡ v) → RefusedOn p ks k e
+  refused_only : (v : Result ℕ Unfit) (e : Refusal) → decided v ≡ Err e → ((rows : ℕ) → rows ≤ 32 → (w : Result ℕ Unfit) → Judged numbers limits p rows judged w → w ≡ v) → RefusedOn p ks k e
   refused_only v e is only m c mat none r o holds =
       let (w, judges, decides) = judged_by m c mat none r o holds in
       subst (λ (x : Result ℕ Refusal). Decided numbers limits steps x m mat k r o) (ap decided (only (length m.rows) c.few w judges) ∙ is) decides
@@ -85,7 +85,7 @@ module _ (p : ℕ) (ks : List Kind) (k : Kind) where
   late_test point count =
       in_range p judged && (leb (works numbers judged) 5040 && (failing (blocking p) demand (horizon numbers judged) point && eqb count (rises demand (point + 1))))
 
-  pub refusing : (rows : ℕ) → rows ≤ 32 → (point count : ℕ) → late_test point count ≡ true → Judged numbers limits p rows judged (Fails point count)
+  pub refusing : (rows : ℕ) → rows ≤ 32 → (point count : ℕ) → late_test point count ≡ true → Judged numbers limits p rows judged (Err (Fails point count))
   refusing rows few point count h =
       let a = and_parts (in_range p judged) _ h in
       let b = and_parts (leb (works numbers judged) 5040) _ a.1 in
@@ -94,20 +94,20 @@ module _ (p : ℕ) (ks : List Kind) (k : Kind) where
 
   pub late_on : (point count : ℕ) → late_test point count ≡ true → RefusedOn p ks k (Late point count)
   late_on point count h =
-      refused_only (Fails point count) (Late point count) refl
+      refused_only (Err (Fails point count)) (Late point count) refl
       (λ rows small. let (j, few, first) = refusing rows small point count h in late_only numbers limits p rows judged j point count few first)
 
   pub overloaded_on : (in_range p judged && ltb 5040 (works numbers judged)) ≡ true → RefusedOn p ks k Overloaded
   overloaded_on h =
       let a = and_parts (in_range p judged) _ h in
-      refused_only Heavy Overloaded refl (λ rows few. overloaded_only numbers limits p rows judged (judgeable p rows few judged a.0) (ltb-true 5040 _ a.1))
+      refused_only (Err Heavy) Overloaded refl (λ rows few. overloaded_only numbers limits p rows judged (judgeable p rows few judged a.0) (ltb-true 5040 _ a.1))
 
   pub granted_on : (n : ℕ) → grant_test p n judged ≡ true → GrantedOn p ks k
   granted_on n h m c mat none r o holds =
       let (j, passes) = grant_parts p (length m.rows) c.few n judged h in
       let (v, judges, decides) = judged_by m c mat none r o holds in
       let (count, is) = granted_only numbers limits p (length m.rows) judged j shaped passes v judges in
-      let there = subst (λ (x : Verdict). Decided numbers limits steps (decided x) m mat k r o) is decides in
+      let there = subst (λ (x : Result ℕ Unfit). Decided numbers limits steps (decided x) m mat k r o) is decides in
       (count, there.2)
 
   -- What least comes to.
@@ -138,7 +138,7 @@ module _ (p : ℕ) (ks : List Kind) (k : Kind) where
       let is = least_is numbers limits dated lawful p (length m.rows) ks k j d f _ above most passes first in
       let (s, least, told) = subst (λ (x : Bool). LeastUnless numbers limits dated x m k r) c.unshut leasts in
       let there = subst₂ (λ (q : ℕ) (cs : List Kind). Least numbers limits dated q (length m.rows) cs k s) c.longest c.counted least in
-      subst (λ (x : Result (ℕ × ℕ) Verdict). Told x r) (least_only numbers limits dated lawful p (length m.rows) ks k j d f above is s there) told
+      subst (λ (x : Result (ℕ × ℕ) Unfit). Told x r) (least_only numbers limits dated lawful p (length m.rows) ks k j d f above is s there) told
 
 -- What stretch comes to.
 
@@ -147,7 +147,7 @@ stretch_on p ks h m c r stretches =
     let a = and_parts (in_range p ks) _ h in
     let (s, stretched, told) = subst (λ (x : Bool). StretchUnless numbers limits x m r) c.unshut stretches in
     let there = subst₂ (λ (q : ℕ) (cs : List Kind). Stretched numbers limits q (length m.rows) cs s) c.longest c.counted stretched in
-    subst (λ (x : Result ℕ Verdict). Told x r) (stretch_only numbers limits p (length m.rows) ks (judgeable p (length m.rows) c.few ks a.0) (ltb-true _ 5040 a.1) s there) told
+    subst (λ (x : Result ℕ Unfit). Told x r) (stretch_only numbers limits p (length m.rows) ks (judgeable p (length m.rows) c.few ks a.0) (ltb-true _ 5040 a.1) s there) told
 
 -- A kind outside its limits.
 

@@ -9,7 +9,7 @@ use Rattle.link.specs.Asking.{Leasts}
 use Rattle.link.specs.declared.state.Link.{Link as Lent}
 use Rattle.link.specs.Model.{FullRow, model, opened, fitting, channels}
 use Rattle.link.specs.Rows.{blank}
-use Rattle.link.specs.declared.refusals.Refusal.{Refusal}
+use Rattle.refusals.specs.declared.Refusal.{Refusal}
 use Rattle.figures.specs.Answers.{Counting}
 use Rattle.figures.specs.Kinds.{Kind, State, S, numbers, limits, dated}
 use Rattle.figures.proofs.Links.{least_on}

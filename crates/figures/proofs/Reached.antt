@@ -2,11 +2,10 @@
 use Rattle.std.proofs.Common.{◌≡◌, ℕ, Bool, true, not, ◌&&◌, eqb, leb, List, [], ◌∷◌, ◌++◌, length, Ok, Option, sym, refl, subst, arith}
 use Rattle.std.proofs.lemmas.Bool.{not-true, and_parts, eqb-true, leb-true}
 use Rattle.verdict.specs.Judged.{Judged}
-use Rattle.verdict.specs.declared.Verdict.TheVariants.{Granted}
 use Rattle.link.specs.History.{Call, opening, hold, held}
 use Rattle.link.specs.Holding.{Vacant, HeldOr, hold_of, filled}
 use Rattle.link.specs.Model.{channels}
-use Rattle.link.specs.declared.refusals.Refusal.{Refusal}
+use Rattle.refusals.specs.declared.Refusal.{Refusal}
 use Rattle.figures.specs.Answers.{Link, Judges, Counting, Leads, Reached, start}
 use Rattle.figures.specs.Figures.{one, two, three}
 use Rattle.figures.specs.Kinds.{Kind, S, numbers, limits, steps}
@@ -14,12 +13,12 @@ use Rattle.figures.proofs.Links.{granting}
 
 -- a granted hold takes any free row
 pub joins : {s m : Link} {cs : List (Call Kind)} → Leads s cs m → (mat : ℕ) (k : Kind) (i count : ℕ) → Judges m mat k → Vacant m i →
-    Judged numbers limits m.terms.longest (length m.rows) (channels m.rows ++ k ∷ []) (Granted count) →
+    Judged numbers limits m.terms.longest (length m.rows) (channels m.rows ++ k ∷ []) (Ok count) →
     Leads s (held mat k (Ok (hold_of m mat, count)) ∷ cs) (filled m i mat (record { kind = k; state = (steps k).fresh }))
 joins {m = m} h mat k i count none vacant judged =
     hold mat k (Ok (hold_of m mat, count)) h
     (subst (λ (x : Option Refusal). HeldOr numbers limits steps x m mat k (Ok (hold_of m mat, count)) (filled m i mat (record { kind = k; state = (steps k).fresh }))) (sym none)
-    (Granted count, judged, (i, vacant, refl, refl)))
+    (Ok count, judged, (i, vacant, refl, refl)))
 
 -- the link that calls lead to
 abbrev pub there : {s m : Link} {cs : List (Call Kind)} → Leads s cs m → Link

@@ -6,15 +6,15 @@ use Rattle.std.proofs.lemmas.List.Sorted.{IsPermutation-refl, IsPermutation-sym,
 use Rattle.traffic.specs.declared.Row.{Row}
 use Rattle.pool.specs.Elements.{First}
 use Rattle.verdict.specs.Judged.{Judged}
-use Rattle.verdict.specs.declared.Verdict.TheVariants.{Granted, Late as Fails}
+use Rattle.verdict.specs.declared.Unfit.TheVariants.{Late as Fails}
 use Rattle.link.specs.History.{Call, opening, hold, confirm, release, offer, tick, offered, ticked}
 use Rattle.link.specs.Model.{with_rows, on_row}
 use Rattle.link.specs.Packets.{packet_before, begun, begun_bulk, told}
 use Rattle.link.specs.Rows.{changed}
 use Rattle.link.specs.Sending.{Offered, offer_outcome, queued}
 use Rattle.link.specs.Ticking.{Ticked, Begins, tick_cause, going, quiet, passed}
-use Rattle.link.specs.declared.refusals.Refusal.{Refusal}
-use Rattle.link.specs.declared.refusals.Refusal.TheVariants.{Late}
+use Rattle.refusals.specs.declared.Refusal.{Refusal}
+use Rattle.refusals.specs.declared.Refusal.TheVariants.{Late}
 use Rattle.link.specs.declared.state.Packet.{Packet}
 use Rattle.figures.specs.Answers.{Link, Leads, start}
 use Rattle.figures.specs.Kinds.{Kind, State, S, numbers, limits, steps}
@@ -66,7 +66,7 @@ second_goes : First packet_before second_packet (second_packet ∷ [])
 second_goes zero _ _ = refl
 second_goes (suc k) _ l = absurd (omega arith)
 
-after_grants : (c d e : ℕ) → Judged numbers limits 5 4 (S 20 5 9 ∷ []) (Granted c) → Judged numbers limits 5 4 (S 20 5 9 ∷ S 20 5 14 ∷ []) (Granted d) → Judged numbers limits 5 4 (S 20 5 14 ∷ S 20 5 9 ∷ []) (Granted e) → Release
+after_grants : (c d e : ℕ) → Judged numbers limits 5 4 (S 20 5 9 ∷ []) (Ok c) → Judged numbers limits 5 4 (S 20 5 9 ∷ S 20 5 14 ∷ []) (Ok d) → Judged numbers limits 5 4 (S 20 5 14 ∷ S 20 5 9 ∷ []) (Ok e) → Release
 after_grants c d e first second third =
     let none : Leads (start 5) [] (start 5) = opening in
     let one = confirm (hold_for 1) (Ok tt) (joins none 1 (S 20 5 9) 0 c refl (_, refl, refl) first) (refl, refl) in
@@ -77,7 +77,7 @@ after_grants c d e first second third =
     let at-3 = tick _ at-2 (_, refl, refl, refl) in
     let at-4 = tick _ at-3 (_, refl, refl, refl) in
     let at_5 = release 1 (Ok tt) (tick _ at-4 (_, refl, refl, refl)) (refl, refl) in
-    let refused = hold 3 (S 20 5 9) (Err (Late 9 1)) at_5 (Fails 9 1, refusing 5 (S 20 5 9 ∷ S 20 5 14 ∷ []) (S 20 5 9) 4 (omega arith) 9 1 refl, (refl, refl)) in
+    let refused = hold 3 (S 20 5 9) (Err (Late 9 1)) at_5 (Err (Fails 9 1), refusing 5 (S 20 5 9 ∷ S 20 5 14 ∷ []) (S 20 5 9) 4 (omega arith) 9 1 refl, (refl, refl)) in
     let at-6 = begins refused refl refl refl second_goes in
     let at_7 = tick _ at-6 (_, refl, refl, refl) in
     let at_8 = tick _ at_7 (_, refl, refl, refl) in

@@ -1,16 +1,16 @@
 -- What the verdict can say is fixed by the channels: one refusal or a grant, one least allowance, one stretch.
-use Rattle.std.proofs.Common.{◌≡◌, ℕ, ◌+◌, ◌-◌, ◌<◌, ◌≤◌, Bool, true, ◌⊎◌, List, [], ◌∷◌, ◌++◌, Ok, Err, Result, sym, refl, ap, ◌∙◌, subst, inl, inr, arith}
+use Rattle.std.proofs.Common.{◌≡◌, ℕ, ◌+◌, ◌-◌, ◌<◌, ◌≤◌, Bool, true, ◌⊎◌, List, [], ◌∷◌, ◌++◌, Ok, Err, Result, is_ok, sym, refl, ap, ◌∙◌, subst, inl, inr, arith}
 use Rattle.std.proofs.lemmas.Bool.{cases_order, false≢true}
 use Rattle.traffic.specs.Curves.{Numbers}
 use Rattle.traffic.specs.Laws.{CurveLaws}
 use Rattle.verdict.specs.Demand.{works, bursts, curves, horizon, blocking}
-use Rattle.verdict.specs.Judged.{Judgeable, Judged, granted}
+use Rattle.verdict.specs.Judged.{Judgeable, Judged}
 use Rattle.verdict.specs.Least.{LeastIs, Least, beside}
 use Rattle.verdict.specs.Passes.{Passes}
 use Rattle.verdict.specs.Points.{FirstFailing, rises}
 use Rattle.verdict.specs.Stretches.{Stretched, stretch_of}
-use Rattle.verdict.specs.declared.Verdict.{Verdict}
-use Rattle.verdict.specs.declared.Verdict.TheVariants.{Granted, OutsideLimits, Overloaded, Late}
+use Rattle.verdict.specs.declared.Unfit.{Unfit}
+use Rattle.verdict.specs.declared.Unfit.TheVariants.{OutsideLimits, Overloaded, Late}
 use Rattle.verdict.proofs.Exactness.{judged_exact}
 use Rattle.verdict.proofs.Halving.{fails, halved}
 use Rattle.verdict.proofs.Lengthening.{Lawful, passes_raised}
@@ -27,39 +27,36 @@ same_failing β F h a b c d x y = (same, x.counted ∙ ap (λ t. rises F (t + 1)
     ]
 
 module _ {K : Type 0} (m : K → Numbers) (limits : K → ℕ → Bool) (p rows : ℕ) (ks : List K) (j : Judgeable limits p rows ks) where
-  pub late_only : (point count : ℕ) → works m ks ≤ 5040 → FirstFailing (blocking p) (curves m ks) (horizon m ks) point count → (v : Verdict) → Judged m limits p rows ks v → v ≡ Late point count
-  late_only point count few first OutsideLimits outside = absurd (outside j)
-  late_only point count few first Overloaded (_, much) = absurd (omega arith)
-  late_only point count few first (Granted n) (_, _, all) = absurd (first.fails (all.fit point first.below first.rise))
-  late_only point count few first (Late a c) (_, _, found) =
+  pub late_only : (point count : ℕ) → works m ks ≤ 5040 → FirstFailing (blocking p) (curves m ks) (horizon m ks) point count → (v : Result ℕ Unfit) → Judged m limits p rows ks v → v ≡ Err (Late point count)
+  late_only point count few first (Err OutsideLimits) outside = absurd (outside j)
+  late_only point count few first (Err Overloaded) (_, much) = absurd (omega arith)
+  late_only point count few first (Ok n) (_, _, all) = absurd (first.fails (all.fit point first.below first.rise))
+  late_only point count few first (Err (Late a c)) (_, _, found) =
       let same = same_failing (blocking p) (curves m ks) (horizon m ks) a point c count found first in
-      λ i. Late (same.0 i) (same.1 i)
+      λ i. Err (Late (same.0 i) (same.1 i))
 
-  pub overloaded_only : 5040 < works m ks → (v : Verdict) → Judged m limits p rows ks v → v ≡ Overloaded
-  overloaded_only much OutsideLimits outside = absurd (outside j)
-  overloaded_only much Overloaded _ = refl
-  overloaded_only much (Granted n) (_, few, _) = absurd (omega arith)
-  overloaded_only much (Late a c) (_, few, _) = absurd (omega arith)
+  pub overloaded_only : 5040 < works m ks → (v : Result ℕ Unfit) → Judged m limits p rows ks v → v ≡ Err Overloaded
+  overloaded_only much (Err OutsideLimits) outside = absurd (outside j)
+  overloaded_only much (Err Overloaded) _ = refl
+  overloaded_only much (Ok n) (_, few, _) = absurd (omega arith)
+  overloaded_only much (Err (Late a c)) (_, few, _) = absurd (omega arith)
 
-  pub stretch_only : works m ks < 5040 → (s : Result ℕ Verdict) → Stretched m limits p rows ks s → s ≡ Ok (stretch_of p (works m ks) (bursts m ks))
+  pub stretch_only : works m ks < 5040 → (s : Result ℕ Unfit) → Stretched m limits p rows ks s → s ≡ Ok (stretch_of p (works m ks) (bursts m ks))
   stretch_only room (Ok slots) (_, _, is) = ap Ok is
   stretch_only room (Err OutsideLimits) outside = absurd (outside j)
   stretch_only room (Err Overloaded) (_, full) = absurd (omega arith)
-  stretch_only room (Err (Granted count)) none = absurd none
   stretch_only room (Err (Late point count)) none = absurd none
 
   module _ (shaped : (k : K) (q : ℕ) → 1 ≤ q → q ≤ 255 → limits k q ≡ true → CurveLaws q (m k)) (passes : Passes m (blocking p) ks) where
-    pub granted_only : (v : Verdict) → Judged m limits p rows ks v → (count : ℕ) × (v ≡ Granted count)
+    pub granted_only : (v : Result ℕ Unfit) → Judged m limits p rows ks v → (count : ℕ) × (v ≡ Ok count)
     granted_only v judged = is v ((judged_exact m limits shaped p rows ks v judged).1 (j, passes))
       where
-        is : (v : Verdict) → granted v ≡ true → (count : ℕ) × (v ≡ Granted count)
-        is (Granted count) _ = (count, refl)
-        is OutsideLimits e = absurd (false≢true e)
-        is Overloaded e = absurd (false≢true e)
-        is (Late point count) e = absurd (false≢true e)
+        is : (v : Result ℕ Unfit) → is_ok v ≡ true → (count : ℕ) × (v ≡ Ok count)
+        is (Ok count) _ = (count, refl)
+        is (Err unfit) e = absurd (false≢true e)
 
     -- channels that pass are granted, with the count of all points below the horizon
-    pub grant : (count : ℕ) × Judged m limits p rows ks (Granted count)
+    pub grant : (count : ℕ) × Judged m limits p rows ks (Ok count)
     grant = (rises (curves m ks) (horizon m ks), (j, passes.works_fit, record { fit = λ t _ _. passes.demand_fits t; counted = refl }))
 
 module _ {K : Type 0} (m : K → Numbers) (limits : K → ℕ → Bool) (dated : K → ℕ → K) (law : Lawful m limits dated) (p rows : ℕ) (ks : List K) (k : K)
@@ -105,9 +102,8 @@ module _ {K : Type 0} (m : K → Numbers) (limits : K → ℕ → Bool) (dated :
   widened : (d f : ℕ) → LeastIs m dated p ks wide d f → Passes m (blocking p) (with_allowance 40320)
   widened d f is = passes_raised m limits dated law p rows ks wide j d 40320 is.least is.most (omega arith) is.passes
 
-  pub least_only : (d f : ℕ) → (m wide).longest < d → LeastIs m dated p ks wide d f → (s : Result (ℕ × ℕ) Verdict) → Least m limits dated p rows ks k s → s ≡ Ok (d, f)
+  pub least_only : (d f : ℕ) → (m wide).longest < d → LeastIs m dated p ks wide d f → (s : Result (ℕ × ℕ) Unfit) → Least m limits dated p rows ks k s → s ≡ Ok (d, f)
   least_only d f above is (Ok (a, g)) (_, found) = let same = same_least a d g f found is above in λ i. Ok (same.0 i, same.1 i)
   least_only d f above is (Err OutsideLimits) outside = absurd (outside j)
   least_only d f above is (Err Overloaded) (_, at) = absurd (omega (arith, at.1, (widened d f is).works_fit))
   least_only d f above is (Err (Late point count)) (_, at) = absurd (at.2.fails ((widened d f is).demand_fits point))
-  least_only d f above is (Err (Granted count)) none = absurd none

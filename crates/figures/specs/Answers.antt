@@ -7,7 +7,7 @@ use Rattle.link.specs.History.{Call, History}
 use Rattle.link.specs.Holding.{Holds, hold_cause, hold_of}
 use Rattle.link.specs.Model.{Model, opened, channels}
 use Rattle.link.specs.Outcomes.{Refused}
-use Rattle.link.specs.declared.refusals.Refusal.{Refusal}
+use Rattle.refusals.specs.declared.Refusal.{Refusal}
 use Rattle.link.specs.declared.state.Hold.{Hold}
 use Rattle.figures.specs.Kinds.{Kind, State, S, numbers, limits, dated, steps}
 

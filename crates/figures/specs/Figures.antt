@@ -1,8 +1,8 @@
 -- The worked figures of links.
 use Rattle.std.specs.Prelude.{◌≡◌, ℕ, true, List, [], ◌∷◌}
 use Rattle.link.specs.Packets.{slots}
-use Rattle.link.specs.Refusals.{number}
-use Rattle.link.specs.declared.refusals.Refusal.TheVariants.{Limits, Overloaded, Late}
+use Rattle.refusals.specs.Refusals.{number}
+use Rattle.refusals.specs.declared.Refusal.TheVariants.{Limits, Overloaded, Late}
 use Rattle.figures.specs.Answers.{Link, Refuses, Counting, RefusedOn, GrantedOn, LeastOn, StretchOn, Reached}
 use Rattle.figures.specs.Kinds.{Kind, S, B, limits}
 use Rattle.figures.specs.Release.{Release}

@@ -1,7 +1,7 @@
 -- A released row counts until the first quiet slot, and only then another mat gets its share.
 use Rattle.std.specs.Prelude.{◌≡◌, ℕ, Bool, true, false, List, [], ◌∷◌, Some, None, Ok, Err}
 use Rattle.link.specs.History.{Call, held, confirmed, released, offered, ticked}
-use Rattle.link.specs.declared.refusals.Refusal.TheVariants.{Late}
+use Rattle.refusals.specs.declared.Refusal.TheVariants.{Late}
 use Rattle.link.specs.declared.state.Hold.{Hold}
 use Rattle.figures.specs.Answers.{Link, Refuses, Grants, Leads, start}
 use Rattle.figures.specs.Kinds.{Kind, S}

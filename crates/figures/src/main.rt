@@ -8,13 +8,11 @@ mod runs;
 use std::io;
 
 // The figures are as told.
-pub fn figures_stand() -> u8
+pub fn figures_stand()
     ensures { Figures }
-{
-    0
-}
+{}
 
 fn main(rt: HostRuntime) -> io::Result<()> {
-    let _ = figures_stand();
+    figures_stand();
     runs::run(&rt)
 }

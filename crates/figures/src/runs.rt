@@ -1,9 +1,8 @@
 // Calls of links whose longest packet has 4 slots.
 ghost use Rattle.std.specs.Prelude.{◌≡◌, Ok};
-ghost use Rattle.figures.specs.Kinds.{S};
 
-use link::refusals::Refusal;
-use link::state::{Link, Mat, Packet};
+use link::state::{Link, Packet};
+use refusals::Refusal;
 use std::io;
 use traffic::Row;
 use traffic::bucket::Bucket;
@@ -14,31 +13,11 @@ type Kind = Mixture<Spaced, Bucket>;
 
 type State = MixtureState<Option<u32>, u64>;
 
-fn spaced(period: u32, longest: u32, allowance: u32) -> Kind
-    ensures { result ≡ S period longest allowance }
-{
-    Mixture::First(Spaced {
-        period,
-        longest,
-        allowance,
-    })
-}
-
-// A row and a place to lend: what they hold is not looked at.
+// A row to lend: what it holds is not looked at.
 fn row() -> Row<Kind, State> {
     Row {
-        kind: spaced(10, 2, 5),
+        kind: Kind::spaced(10, 2, 5),
         state: MixtureState::OfFirst(None),
-    }
-}
-
-fn place() -> Packet {
-    Packet {
-        due: 0,
-        mat: 0,
-        count: 0,
-        place: 0,
-        bytes: 0,
     }
 }
 
@@ -47,26 +26,14 @@ pub fn least_alone() -> Result<(u32, u32), Refusal>
     ensures { result ≡ Ok (5, 4) }
 {
     let mut rows = [row(); 4];
-    let mut places = [place(); 8];
+    let mut places = [Packet::default(); 8];
     let link = Link::open(0, 4, &mut rows, &mut places);
-    link.least(spaced(10, 2, 0))
+    link.least(Kind::spaced(10, 2, 0))
 }
 
-// Holds a row and confirms it: the number, 0 if it is granted, and the count of points.
-fn join(link: &mut Link<'_, Kind>, mat: Mat, kind: Kind) -> (u32, u32) {
-    match link.hold(mat, kind) {
-        Ok((hold, count)) => match link.confirm(hold) {
-            Ok(()) => (0, count),
-            Err((refusal, back)) => {
-                let _ = link.cancel(back);
-                (refusal.number(), 0)
-            }
-        },
-        Err(refusal) => {
-            let (_, count) = refusal.values();
-            (refusal.number(), count)
-        }
-    }
+// The number that a join answers, 0 where it is granted.
+fn number(joined: Result<u32, Refusal>) -> u32 {
+    joined.err().map_or(0, |refusal| refusal.number())
 }
 
 // Three channels join, each at its least allowance; then the stretch.
@@ -75,17 +42,16 @@ pub fn run(rt: &HostRuntime) -> io::Result<()> {
         println!(rt; "least {least}, point {point}")?;
     }
     let mut rows = [row(); 4];
-    let mut places = [place(); 8];
+    let mut places = [Packet::default(); 8];
     let mut link = Link::open(0, 4, &mut rows, &mut places);
-    let (first, _) = join(&mut link, 1, spaced(10, 2, 5));
-    let (second, _) = join(&mut link, 2, spaced(8, 4, 9));
-    let (third, count) = join(&mut link, 3, spaced(12, 3, 18));
+    let first = number(link.join(1, Kind::spaced(10, 2, 5)));
+    let second = number(link.join(2, Kind::spaced(8, 4, 9)));
+    let last = link.join(3, Kind::spaced(12, 3, 18));
+    let third = number(last);
+    let count = last.unwrap_or(0);
     println!(rt; "holds {first}, {second}, {third}; count {count}")?;
     match link.stretch() {
         Ok(slots) => println!(rt; "stretch {slots}"),
-        Err(refusal) => {
-            let why = refusal.number();
-            println!(rt; "stretch refused {why}")
-        }
+        Err(refusal) => println!(rt; "stretch refused {}", refusal.number()),
     }
 }

@@ -1,10 +1,8 @@
 // Cases of the verdict: holds refused at a late point, the most points there can be, and the least allowance.
-use crate::kinds::{Kind, Lent, bucket, cover, place, row, spaced};
-use crate::sending::join;
-use link::state::Link;
+use crate::kinds::{Kind, Lent, cover, row};
+use link::state::{Link, Packet};
 use std::alloc::{AllocError, Global};
 use std::io;
-use verdict::Verdict;
 use verdict::channels::Channels;
 
 const COUNTED: [bool; 32] = [true; 32];
@@ -13,7 +11,7 @@ const COUNTED: [bool; 32] = [true; 32];
 fn dense(heap: Global) -> Result<Vec<Kind>, AllocError> {
     let mut kinds = cover(heap, 23)?;
     kinds.truncate(23);
-    kinds.push(bucket(5040, 24, 8, 34583))?;
+    kinds.push(Kind::bucket(5040, 24, 8, 34583))?;
     Ok(kinds)
 }
 
@@ -33,17 +31,18 @@ fn ask(link: &mut Link<'_, Kind>, kind: Kind, times: u32) -> (u32, u32) {
 
 // Holds beside 24 granted channels, each refused at one of the last points.
 pub fn refused(rt: &HostRuntime, times: u32) -> io::Result<()> {
-    let mut rows = [row(spaced(1, 1, 1)); 32];
-    let mut places = [place(); 256];
+    let mut rows = [row(Kind::spaced(1, 1, 1)); 32];
+    let mut places = [Packet::default(); 256];
     let mut link = Link::open(0, 24, &mut rows, &mut places);
     let kinds = dense(rt.alloc())?;
     let mut granted = 0u8;
     for kind in &kinds {
-        if join(&mut link, granted.wrapping_add(1), *kind) {
-            granted = granted.wrapping_add(1);
+        let mat = granted.wrapping_add(1);
+        if link.join(mat, *kind).is_ok() {
+            granted = mat;
         }
     }
-    let (point, count) = ask(&mut link, bucket(1260, 1, 6, 40320), times);
+    let (point, count) = ask(&mut link, Kind::bucket(1260, 1, 6, 40320), times);
     println!(rt; "refused: {times} holds beside {granted} channels, point {point}, count {count}")
 }
 
@@ -62,11 +61,11 @@ pub fn points(rt: &HostRuntime, times: u32) -> io::Result<()> {
     let channels = Channels {
         rows: &rows,
         counted: &COUNTED,
-        more: Some(spaced(5040, 1, 40320)),
+        more: Some(Kind::spaced(5040, 1, 40320)),
     };
     let mut taken = 0u32;
     for _ in 0..times {
-        if let Verdict::Granted { count } = channels.judge(1) {
+        if let Ok(count) = channels.judge(1) {
             taken = count;
         }
     }
@@ -83,7 +82,7 @@ pub fn least(rt: &HostRuntime, times: u32) -> io::Result<()> {
     };
     let mut found = (0, 0);
     for _ in 0..times {
-        if let Ok(answer) = channels.least(spaced(5040, 1, 0), 1) {
+        if let Ok(answer) = channels.least(Kind::spaced(5040, 1, 0), 1) {
             found = answer;
         }
     }
