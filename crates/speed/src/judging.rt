@@ -5,8 +5,6 @@ use std::alloc::{AllocError, Global};
 use std::io;
 use verdict::channels::Channels;
 
-const COUNTED: [bool; 32] = [true; 32];
-
 // 24 channels: 23 with a packet due in nearly every slot, and one whose bursts take most of what is left.
 fn dense(heap: Global) -> Result<Vec<Kind>, AllocError> {
     let mut kinds = cover(heap, 23)?;
@@ -48,21 +46,14 @@ pub fn refused(rt: &HostRuntime, times: u32) -> io::Result<()> {
 
 // A row for each of 32 channels that leave one slot of a frame.
 fn full_table(heap: Global) -> Result<Vec<Lent>, AllocError> {
-    let mut rows = Vec::new(heap);
-    for kind in &cover(heap, 0)? {
-        rows.push(row(*kind))?;
-    }
-    Ok(rows)
+    let kinds = cover(heap, 0)?;
+    kinds.iter().map(|kind| row(*kind)).collect(heap)
 }
 
 // The verdict on 33 channels, the last with the longest allowance, so that no other channels have more points.
 pub fn points(rt: &HostRuntime, times: u32) -> io::Result<()> {
     let rows = full_table(rt.alloc())?;
-    let channels = Channels {
-        rows: &rows,
-        counted: &COUNTED,
-        more: Some(Kind::spaced(5040, 1, 40320)),
-    };
+    let channels = Channels::all(&rows).with(Kind::spaced(5040, 1, 40320));
     let mut taken = 0u32;
     for _ in 0..times {
         if let Ok(count) = channels.judge(1) {
@@ -75,11 +66,7 @@ pub fn points(rt: &HostRuntime, times: u32) -> io::Result<()> {
 // The least allowance beside 32 channels.
 pub fn least(rt: &HostRuntime, times: u32) -> io::Result<()> {
     let rows = full_table(rt.alloc())?;
-    let channels = Channels {
-        rows: &rows,
-        counted: &COUNTED,
-        more: None,
-    };
+    let channels = Channels::all(&rows);
     let mut found = (0, 0);
     for _ in 0..times {
         if let Ok(answer) = channels.least(Kind::spaced(5040, 1, 0), 1) {

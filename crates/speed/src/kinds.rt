@@ -32,11 +32,7 @@ pub fn cover(heap: Global, blocking: u8) -> Result<Vec<Kind>, AllocError> {
         (5040, 720, 720, 6),
     ] {
         for k in 0..channels {
-            kinds.push(Kind::spaced(
-                period,
-                1,
-                first + step * k + u32::from(blocking),
-            ))?;
+            kinds.push(Kind::spaced(period, 1, first + step * k + u32::from(blocking)))?;
         }
     }
     Ok(kinds)

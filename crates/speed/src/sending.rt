@@ -1,8 +1,7 @@
 // Cases of the sender: an idle link, and a busy one.
 use crate::kinds::{Kind, row};
 use link::state::{Link, Packet, Sent};
-use std::fmt;
-use std::io;
+use std::{fmt, io};
 
 // What some slots carried: pieces of the mats, pieces of the files, and ends.
 #[derive(Clone, Copy, Default)]
