@@ -1,2 +1,3 @@
 pub mod Deciding
-pub mod Mats
+pub mod Rows
+pub mod Telling

@@ -1,4 +1,3 @@
 pub mod Answers
 pub mod Decisions
 pub mod Granted
-pub mod Lines

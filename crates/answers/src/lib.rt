@@ -1,16 +1,16 @@
-// What the course program prints: the answers to a plan, line by line.
+// What the course programs print that judge by the verdict alone: the answers to a plan, line by line.
 #![tactic(auto)]
 
-ghost use Rattle.std.specs.Prelude.{◌≡◌, [], IfOk};
-ghost use Rattle.answers.specs.Answers.{Answered, Told};
+ghost use Rattle.std.specs.Prelude.{◌≡◌, IfOk};
+ghost use Rattle.answers.specs.Answers.{Answered, LeastAnswered, ToldBy, opens};
+ghost use Rattle.answers.specs.Granted.{Shown};
 ghost use Rattle.plan.specs.Format.{script};
 
 pub mod decisions;
-pub mod lines;
 
-use decisions::decide_all;
-use lines::Line;
-use plan::{Fault, Plan, read};
+use decisions::{Decision, Granted};
+use lines::{Line, refused};
+use plan::{Channel, Plan, read};
 use std::alloc::{AllocError, Global};
 
 // The lines to print for a text: for a malformed one its place alone, else what opening and each channel answer.
@@ -18,25 +18,51 @@ pub fn answer(heap: Global, text: &[u8]) -> Result<Vec<Line>, AllocError>
     ensures { IfOk result (λ ls. Answered text.now ls.items) }
 {
     match read(heap, text) {
-        Ok(plan) => tell(heap, &plan),
-        Err(Fault::Malformed { section, line }) => {
-            let mut lines = Vec::new(heap);
-            lines.push(Line::Malformed { section, line })?;
-            Ok(lines)
-        }
-        Err(Fault::NoMemory) => Err(AllocError),
+        Ok(plan) => tell(
+            heap,
+            &plan,
+            |_, channel, decision| Line::of_channel(channel, decision),
+        ),
+        Err(fault) => refused(heap, fault),
     }
 }
 
-// The lines of a plan that was read.
-fn tell(heap: Global, plan: &Plan) -> Result<Vec<Line>, AllocError>
-    ensures { IfOk result (λ ls. Told (script plan.now) ls.items) }
+// The same with the least allowance of each channel in place of its answer.
+pub fn least(heap: Global, text: &[u8]) -> Result<Vec<Line>, AllocError>
+    ensures { IfOk result (λ ls. LeastAnswered text.now ls.items) }
 {
-    let mut lines = Vec::new(heap);
-    if plan.longest < 1 || plan.longest > 255 {
-        lines.push(Line::Opened { number: 1 })?;
+    match read(heap, text) {
+        Ok(plan) => tell(heap, &plan, |granted, channel, _| granted.least(channel)),
+        Err(fault) => refused(heap, fault),
+    }
+}
+
+// Whether a link opens whose longest packet has so many slots.
+fn opens(longest: u32) -> bool
+    ensures { result ≡ opens longest }
+{
+    1 <= longest && longest <= 255
+}
+
+// The lines of a plan: how the link opens and, where it opens, a line that this shows of each channel, decided with those granted before.
+fn tell<F: Fn(&Granted, &Channel, Decision) -> Line>(
+    heap: Global,
+    plan: &Plan,
+    line: F,
+) -> Result<Vec<Line>, AllocError>
+    requires { F.IsAlwaysCallable line }
+    ensures { IfOk result (λ ls. ToldBy (Shown F.Fn line) (script plan.now) ls.items) }
+{
+    let opened = opens(plan.longest);
+    let mut lines = vec![in heap; Line::Opened { shut: !opened }]?;
+    if !opened {
         return Ok(lines);
     }
-    lines.push(Line::Opened { number: 0 })?;
-    decide_all(heap, plan.longest, &plan.channels, lines)
+    let mut granted = Granted::new(heap, plan.longest);
+    for channel in &plan.channels {
+        let decision = granted.decide(channel);
+        lines.push(line(&granted, channel, decision))?;
+        granted.count(channel, decision)?;
+    }
+    Ok(lines)
 }

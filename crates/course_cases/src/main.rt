@@ -2,39 +2,21 @@
 #![tactic(auto)]
 
 use answers::answer;
+use lines::cases::{AT_ONCE, FULL, LIMITS, SHUT_MALFORMED, SOONER, THREE};
+use lines::replies::show;
 use std::{fs, io};
 
-// Three spaced channels that the air just carries together under packets of up to 4 slots.
-const THREE: &[u8] = b"1\nP 4\n3\nS 1 10 2 5\nS 2 8 4 9\nS 3 12 3 18\n0\n";
-// The third a slot sooner: the point 17 fails.
-const SOONER: &[u8] = b"1\nP 4\n3\nS 1 10 2 5\nS 2 8 4 9\nS 3 12 3 17\n0\n";
-// One packet of a slot in every slot, due at once: a packet of 2 slots may hold it up.
-const AT_ONCE: &[u8] = b"1\nP 2\n1\nS 1 1 1 1\n0\n";
-// A slot later it is granted, and then the air is full.
-const FULL: &[u8] = b"1\nP 2\n2\nS 1 1 1 2\nS 2 5040 1 1\n0\n";
-// Mat 0, a period that does not divide the frame, an allowance above and at its limit, a mat asked for twice.
-const LIMITS: &[u8] =
-    b"1\nP 4\n5\nS 0 10 2 5\nS 1 11 2 5\nS 1 10 2 40321\nS 1 10 2 40320\nB 1 10 2 3 9\n0\n";
-// A link that opens shut; a malformed plan for such a link.
+// A link that opens shut.
 const SHUT: &[u8] = b"1\nP 256\n1\nS 1 10 2 5\n0\n";
 
-const SHUT_MALFORMED: &[u8] = b"1\nP 0\n0\n1\n";
-
-fn show(rt: &HostRuntime, text: &[u8]) -> io::Result<()> {
-    println!(rt; "--")?;
-    for line in answer(rt.alloc(), text)? {
-        println!(rt; "{line}")?;
-    }
-    Ok(())
-}
-
 fn main(rt: HostRuntime) -> io::Result<()> {
+    let mut output = io::writer(&rt);
     for text in [THREE, SOONER, AT_ONCE, FULL, LIMITS, SHUT, SHUT_MALFORMED] {
-        show(&rt, text)?;
+        show(&mut output, text, |text| answer(rt.alloc(), text))?;
     }
     for name in ["track-meet.plan", "trail-course.plan"] {
         let text = fs::read(&rt, name)?;
-        show(&rt, &text)?;
+        show(&mut output, &text, |text| answer(rt.alloc(), text))?;
     }
     Ok(())
 }

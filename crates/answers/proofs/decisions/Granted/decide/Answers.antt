@@ -1,13 +1,15 @@
-use Rattle.std.proofs.Common.{vec_items}
-use Rattle.answers.proofs.Deciding.{early_decides, judged_decides}
+use Rattle.std.proofs.Common.{◌≡◌, [], ◌∷◌, ◌++◌, vec_items, length, map, take, ap, ◌∙◌, rules}
+use Rattle.refusals.specs.Refusals.{decided}
+use Rattle.answers.specs.Granted.{mats}
+use Rattle.answers.proofs.Rows.{judged_decides}
 use Rattle.answers.proofs.decisions.Granted.decide.Goals as goal
-
-pub returns-in-Some : goal.returns-in-Some
-returns-in-Some c =
-    let granted = c.args.self.now in
-    early_decides c.args.longest (vec_items granted.mats) (vec_items granted.rows) c.args.channel.now _ _ granted.rows.ok.0 c.in-Some.ensures
 
 pub returns : goal.returns
 returns c =
     let granted = c.args.self.now in
-    judged_decides c.args.longest (vec_items granted.mats) (vec_items granted.rows) _ c.args.channel.now _ c.judge.result _ granted.rows.ok.0 c.in_default.ensures c.deref.ensures.value c.judge.ensures.judged c.of.ensures
+    let answer : c.map_err.result ≡ decided c.judge.result = search rules in
+    judged_decides granted.longest (mats granted) (vec_items granted.rows) c.args.channel.now _ c.judge.result _ c.in_ok-check.field-0 _ _
+    granted.rows.ok.0 c.in_ok-check.ensures
+    (c.with-together.ensures.size ∙ c.all.ensures.size ∙ ap length c.deref.ensures.value)
+    (c.with-together.ensures.members ∙ ap (λ ks. ks ++ c.args.channel.now.kind ∷ []) (c.all.ensures.rows ∙ ap (λ rs. map (λ r. r.kind) (take 32 rs)) c.deref.ensures.value))
+    c.judge.ensures.judged answer
