@@ -10,6 +10,10 @@ use Rattle.plan.specs.Format.{cut, ended}
 abbrev pub Unbroken : List ℕ → Type 0
 Unbroken l = AllByRecursion (λ b. eqb b 10 ≡ false) l
 
+-- a byte 10 at the front ends an empty line, and any other byte goes in front of the first line
+cut_at_break : (bs : List ℕ) → cut (10 ∷ bs) ≡ [] ∷ cut bs
+cut_at_break bs = refl
+
 cut_other : (b : ℕ) (bs : List ℕ) → eqb b 10 ≡ false → cut (b ∷ bs) ≡ onto_first b (cut bs)
 cut_other b bs other = cond-false (eqb b 10) ([] ∷ cut bs) (onto_first b (cut bs)) other
 

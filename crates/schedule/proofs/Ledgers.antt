@@ -1,12 +1,12 @@
 -- The ledger of a link: the channels that it counts, what each has offered, and the core machine that sends it. All that happens on a link keeps it.
-use Rattle.std.proofs.Common.{◌≡◌, ℕ, ◌+◌, ◌-◌, ◌*◌, ◌<◌, ◌≤◌, List, [], ◌∷◌, ◌++◌, map, Some, refl, arith}
+use Rattle.std.proofs.Common.{◌≡◌, ℕ, ◌+◌, ◌-◌, ◌*◌, ◌<◌, ◌≤◌, Bool, true, false, cond, List, [], ◌∷◌, ◌++◌, map, Some, filter, refl, append_assoc, arith}
 use mathlib.Core.List.{map-append}
 use Rattle.std.specs.List.{AllByRecursion}
 use Rattle.std.specs.List.Sorted.{IsPermutation}
-use Rattle.std.proofs.ByRecursion.{All-append, All-map, All-weaker}
+use Rattle.std.proofs.ByRecursion.{All-append, All-map, All-weaker, all_kept_by}
 use Rattle.traffic.specs.Arrivals.{Steps}
 use Rattle.traffic.specs.Curves.{Numbers}
-use Rattle.traffic.specs.Laws.{CurveLaws, TrafficLaws}
+use Rattle.traffic.specs.Laws.{CurveLaws, Redated, TrafficLaws}
 use Rattle.verdict.specs.Demand.{total, works}
 use Rattle.schedule.specs.Arrivals.{Bulk, Offers, offered}
 use Rattle.schedule.specs.Core.{State, state, opened, Arrives, arrives, Tick}
@@ -114,6 +114,13 @@ module _ {K S : Type 0} (numbers : K → Numbers) (steps : K → Steps S) (p : �
       streak = g.streak;
     }
 
+    -- its allowance is raised
+    pub ledger_raises : (q : ℕ) (m : State) (d : ℕ) (xs : List (Entry K S)) (k k' : K) (ys : List (Entry K S)) → CurveLaws p (numbers k') → TrafficLaws (numbers k') (steps k') → Redated (numbers k) d (numbers k') → (numbers k).allowance ≤ d →
+        Ledger q m (xs ++ fresh steps k ∷ ys) → Ledger q m (xs ++ fresh steps k' ∷ ys)
+    ledger_raises q m d xs k k' ys shaped laws re l g = ledger_holds q m xs k' ys shaped laws
+        (rw (map-append (λ e. e.kind) xs (fresh steps k' ∷ ys)) (D.raised d (kinds xs) k k' (kinds ys) (Sums.all_back _ xs (fresh steps k ∷ ys) g.entered).0.shaped shaped re l (rw (map-append (λ e. e.kind) xs (fresh steps k ∷ ys)) at g.serves)))
+        (ledger_drops q m xs (fresh steps k) ys refl g)
+
     -- Jobs arrive.
 
     ledger_arrives : (q : ℕ) (es es' : List (Entry K S)) (j : Job) (m n : State) → j.slots ≤ p → AllByRecursion (Entered n.clock) es' → D.Serves (kinds es') → ((f : Job → ℕ) → OnlySince q f → f j + pasts f es ≤ pasts f es') →
@@ -187,3 +194,17 @@ module _ {K S : Type 0} (numbers : K → Numbers) (steps : K → Steps S) (p : �
           owned = λ f s. omega (arith, owned_anew [] t g.kept.sound f s);
           streak = streak_wider _ (p - 1) n.clock n (left_short p n kept.sound short.begun) (streak_anew n still);
         }
+
+    -- any channels may go with it
+    stay_served : (stays : Entry K S → Bool) (ks : List K) (es : List (Entry K S)) → D.Serves (ks ++ kinds es) → D.Serves (ks ++ kinds (filter stays es))
+    stay_served stays ks [] h = h
+    stay_served stays ks (e ∷ es) h = one (stays e)
+        (rw (append_assoc ks (e.kind ∷ []) (kinds (filter stays es))) at (stay_served stays (ks ++ e.kind ∷ []) es (rw (append_assoc ks (e.kind ∷ []) (kinds es)) h)))
+        (stay_served stays ks es (D.dropped ks e.kind (kinds es) h))
+      where
+        one : (b : Bool) → D.Serves (ks ++ e.kind ∷ kinds (filter stays es)) → D.Serves (ks ++ kinds (filter stays es)) → D.Serves (ks ++ kinds (cond b (e ∷ filter stays es) (filter stays es)))
+        one true here gone = here
+        one false here gone = gone
+
+    pub ledger_quiet : (q : ℕ) (m n : State) (es : List (Entry K S)) (stays : Entry K S → Bool) → Tick D.before m n → ahead timed m ≡ 0 → Ledger q m es → Ledger n.clock n (filter stays es)
+    ledger_quiet q m n es stays t none g = ledger_quiet_among q m n es (filter stays es) (λ P h. all_kept_by stays P es h) (stay_served stays [] es g.serves) t none g

@@ -1,11 +1,11 @@
 -- Whose the jobs are: the channels' jobs that came since q are among given ones, however jobs are weighed.
-use Rattle.std.proofs.Common.{◌≡◌, ℕ, ◌<◌, ◌≤◌, Bool, false, List, arith}
+use Rattle.std.proofs.Common.{◌≡◌, ℕ, ◌+◌, ◌<◌, ◌≤◌, Bool, false, List, arith}
 use Rattle.std.proofs.ByRecursion.{All-weaker}
 use Rattle.std.proofs.lemmas.Bool.Decides.{nat_tests}
 use Rattle.verdict.specs.Demand.{total}
-use Rattle.schedule.specs.Core.{State, Tick}
+use Rattle.schedule.specs.Core.{State, Arrives, Tick}
 use Rattle.schedule.specs.Jobs.{Job, timed}
-use Rattle.schedule.proofs.Counts.{asks, weigh, clock_tick, weigh_tick}
+use Rattle.schedule.proofs.Counts.{asks, weigh, clock_tick, weigh_tick, weigh_arrives}
 use Rattle.schedule.proofs.Logs.{Sound}
 use Rattle.schedule.proofs.Sums
 
@@ -22,6 +22,19 @@ asks_since q a X l out = record {
   early = λ j e. grind (arith, nat_tests);
   bulk = λ j n. let none = out j n in grind (arith, nat_tests);
 }
+
+-- Steps keep the jobs among the given ones.
+
+pub owned_tick : (q : ℕ) (js : List Job) {before : Job → Job → Bool} {m n : State} → Tick before m n → Owned q js m → Owned q js n
+owned_tick q js t own f s = omega (arith, own f s, weigh_tick t f)
+
+-- a channel's job is added to them
+pub owned_arrives : (q : ℕ) (js js' : List Job) {j : Job} {m n : State} → Arrives j m n → ((f : Job → ℕ) → total f js' ≡ f j + total f js) → Owned q js m → Owned q js' n
+owned_arrives q js js' a more own f s = omega (arith, own f s, weigh_arrives a f, more f)
+
+-- bulk is nobody's
+pub owned_bulk : (q : ℕ) (js : List Job) {j : Job} {m n : State} → Arrives j m n → timed j ≡ false → Owned q js m → Owned q js n
+owned_bulk q js {j} a b own f s = omega (arith, own f s, weigh_arrives a f, s.bulk j b)
 
 -- just after a slot nothing has come since
 pub owned_anew : (js : List Job) {before : Job → Job → Bool} {m n : State} → Tick before m n → Sound m → Owned n.clock js n

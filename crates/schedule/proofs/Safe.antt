@@ -1,11 +1,11 @@
 -- Safe channels: their demand and the blocking fit at every t. Under earliest deadline first all that they offer can then be sent in time.
-use Rattle.std.proofs.Common.{◌≡◌, ℕ, ◌+◌, ◌-◌, ◌<◌, ◌≤◌, Bool, true, false, List, [], ◌∷◌, ◌++◌, refl, arith}
+use Rattle.std.proofs.Common.{◌≡◌, ℕ, ◌+◌, ◌-◌, ◌<◌, ◌≤◌, Bool, true, false, List, [], ◌∷◌, ◌++◌, refl, inl, inr, arith}
 use Rattle.std.specs.List.{AllByRecursion}
-use Rattle.std.proofs.lemmas.Bool.{cond-true}
+use Rattle.std.proofs.lemmas.Bool.{cases_lt, cond-true}
 use Rattle.std.proofs.ByRecursion.{All-weaker}
 use Rattle.traffic.specs.Arrivals.{Steps}
 use Rattle.traffic.specs.Curves.{Numbers}
-use Rattle.traffic.specs.Laws.{TrafficLaws}
+use Rattle.traffic.specs.Laws.{CurveLaws, Redated, TrafficLaws}
 use Rattle.verdict.specs.Demand.{curves, blocking}
 use Rattle.verdict.specs.Points.{Fits}
 use Rattle.schedule.specs.Arrivals.{Offers, offered}
@@ -25,11 +25,30 @@ use Rattle.schedule.proofs.Timely.{WaitingInTime}
 abbrev pub Safe : {K : Type 0} → (K → Numbers) → (ℕ → ℕ) → List K → Type 0
 Safe numbers β ks = (t : ℕ) → Fits β (curves numbers ks) t
 
--- they stay so when a channel is dropped
+-- they stay so when a channel is dropped, and when an allowance is raised
 pub safe_dropped : {K : Type 0} (numbers : K → Numbers) (β : ℕ → ℕ) (xs : List K) (k : K) (ys : List K) → Safe numbers β (xs ++ k ∷ ys) → Safe numbers β (xs ++ ys)
 safe_dropped numbers β xs k ys safe t some =
     let a = Sums.total-append (λ k. (numbers k).curve t) xs (k ∷ ys) in
     let b = Sums.total-append (λ k. (numbers k).curve t) xs ys in
+    omega (arith, safe t (omega arith))
+
+-- a longer allowance lowers a curve at every t
+pub curve_raised : (p e : ℕ) (n n' : Numbers) → CurveLaws p n → CurveLaws p n' → Redated n e n' → n.allowance ≤ e → (t : ℕ) → n'.curve t ≤ n.curve t
+curve_raised p e n n' laws laws' re l t = elim (cases_lt t e) [
+  | inl b ↦ omega (arith, laws'.nothing_before t (omega (arith, re.allowance)))
+  | inr g ↦
+      let i : ℕ = t - e in
+      let end : e + i ≡ t = omega arith in
+      let same : n'.curve t ≡ n.curve (n.allowance + i) = rw end at (re.curve i) in
+      omega (arith, laws.never_falls (n.allowance + i) t (omega arith))
+]
+
+pub safe_raised : {K : Type 0} (numbers : K → Numbers) (β : ℕ → ℕ) (p e : ℕ) (xs : List K) (k k' : K) (ys : List K) →
+    CurveLaws p (numbers k) → CurveLaws p (numbers k') → Redated (numbers k) e (numbers k') → (numbers k).allowance ≤ e → Safe numbers β (xs ++ k ∷ ys) → Safe numbers β (xs ++ k' ∷ ys)
+safe_raised numbers β p e xs k k' ys laws laws' re l safe t some =
+    let a = Sums.total-append (λ k. (numbers k).curve t) xs (k ∷ ys) in
+    let b = Sums.total-append (λ k. (numbers k).curve t) xs (k' ∷ ys) in
+    let c = curve_raised p e (numbers k) (numbers k') laws laws' re l t in
     omega (arith, safe t (omega arith))
 
 -- What is owed can be sent in time.

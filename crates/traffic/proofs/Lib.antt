@@ -1,2 +1,4 @@
+pub mod Credit
+pub mod Rises
 pub mod Uses
 pub mod Worked

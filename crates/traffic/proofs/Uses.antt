@@ -1,5 +1,5 @@
 -- What follows from the laws of any kind.
-use Rattle.std.proofs.Common.{◌≡◌, ℕ, zero, suc, ◌+◌, ◌-◌, ◌*◌, ◌<◌, ◌≤◌, Some, sym, ap, ◌∙◌, subst, inl, inr, mul-le-mul_left, arith}
+use Rattle.std.proofs.Common.{◌≡◌, ℕ, zero, suc, ◌+◌, ◌-◌, ◌*◌, ◌<◌, ◌≤◌, Some, None, sym, ap, ◌∙◌, subst, inl, inr, mul-le-mul_left, arith}
 use Rattle.std.proofs.lemmas.Bool.{cases_lt}
 use Rattle.traffic.specs.Curves.{Numbers, Rises, NextRise}
 use Rattle.traffic.specs.Laws.{CurveLaws}
@@ -36,7 +36,10 @@ steady f up t v h none =
     let e : t + (v - t) ≡ v = omega arith in
     ap f (sym e) ∙ steady_steps f up t (v - t) (λ w l m. none w l (omega arith))
 
--- So it is from t until just before the next rise.
+-- So it is from t until just before the next rise, and for ever where there is none.
 
 pub steady_until_rise : (f : ℕ → ℕ) → ((t u : ℕ) → t ≤ u → f t ≤ f u) → (t u v : ℕ) → NextRise f t (Some u) → t ≤ v → v < u → f v ≡ f t
 steady_until_rise f up t u v next h lt = steady f up t v h (λ w l m. next.2 w l (omega arith))
+
+pub steady_for_ever : (f : ℕ → ℕ) → ((t u : ℕ) → t ≤ u → f t ≤ f u) → (t v : ℕ) → NextRise f t None → t ≤ v → f v ≡ f t
+steady_for_ever f up t v next h = steady f up t v h (λ w l m. next w l)
