@@ -6,19 +6,19 @@ use Rattle.plan.specs.declared.Channel.{Channel}
 use Rattle.link.specs.Asking.{Leasts}
 use Rattle.link.specs.History as history
 use Rattle.link.specs.History.{least_asked}
-use Rattle.link.specs.declared.refusals.Refusal.{Refusal}
+use Rattle.link.specs.Joining.{Joined}
+use Rattle.refusals.specs.declared.Refusal.{Refusal}
 use Rattle.link.specs.declared.state.Hold.{Hold}
-use Rattle.whole_answers.specs.Kinds.{LinkCall, LinkModel, LinkHistory, kind_numbers, kind_limits, kind_dated}
-use Rattle.whole_answers.specs.Least.{Asks, none_asked, asked, Asking, AsksOf, LeastTold, least_line_lem}
-use Rattle.whole_answers.specs.Parts.{Joined}
+use Rattle.whole_answers.specs.Kinds.{LinkCall, LinkModel, LinkRow, LinkHistory, kind_numbers, kind_limits, kind_dated, kind_steps}
+use Rattle.whole_answers.specs.Least.{Asks, none_asked, asked, Asking, AsksOf, LeastTold}
 use Rattle.whole_answers.specs.Plans.{joining}
-use Rattle.whole_answers.specs.Prints.{opening_line}
-use Rattle.whole_answers.specs.Runs.{link_of}
-use Rattle.whole_answers.specs.declared.lines.Line.{Line}
-use Rattle.whole_answers.proofs.Running.{lent_rows}
+use Rattle.whole_answers.specs.Runs.{Opening, link_of}
+use Rattle.lines.specs.Lines.{least_line_lem}
+use Rattle.lines.specs.declared.Line.{Line}
+use Rattle.lines.specs.declared.Line.TheVariants.{Opened}
 
 -- a channel joined, as calls
-joined_history : (start m n : LinkModel) (cs : List LinkCall) (x : Channel) (r : Result ℕ Refusal) → Joined m x r n → LinkHistory start cs m →
+joined_history : (start m n : LinkModel) (cs : List LinkCall) (x : Channel) (r : Result ℕ Refusal) → Joined kind_numbers kind_limits kind_steps m x.mat x.kind r n → LinkHistory start cs m →
     (a : Result (Hold × ℕ) Refusal) × LinkHistory start (joining x a cs) n
 joined_history start m n cs x (Err e) said h = (Err e, history.hold x.mat x.kind (Err e) h said)
 joined_history start m n cs x (Ok count) (hold, o, granted, confirms) h =
@@ -30,7 +30,7 @@ module _ (xs : List Channel) (m : LinkModel) (ls : List Line) where
 
   -- one channel more
   pub asking_more : (i : ℕ) (d : Channel) (a : Result (ℕ × ℕ) Refusal) (r : Result ℕ Refusal) (n o : LinkModel) (ks js : List Line) → i < length xs →
-      Asking (take i xs) m ls n ks → Leasts kind_numbers kind_limits kind_dated n (get_or xs i d).kind a → Joined n (get_or xs i d) r o →
+      Asking (take i xs) m ls n ks → Leasts kind_numbers kind_limits kind_dated n (get_or xs i d).kind a → Joined kind_numbers kind_limits kind_steps n (get_or xs i d).mat (get_or xs i d).kind r o →
       js ≡ ks ++ least_line_lem (get_or xs i d).mat a ∷ [] → Asking (take (i + 1) xs) m ls o js
   asking_more i d a r n o ks js inside (cs, told, h, asks, is) found joined more =
       let x = get_or xs i d in
@@ -47,26 +47,26 @@ module _ (xs : List Channel) (m : LinkModel) (ls : List Line) where
   pub asking_all : (i : ℕ) (n : LinkModel) (ks : List Line) → length xs ≤ i → Asking (take i xs) m ls n ks → Asking xs m ls n ks
   asking_all i n ks past (cs, told, h, asks, is) = (cs, told, h, subst (λ (ys : List Channel). Asks ys cs told) (take_all i xs past) asks, is)
 
-module _ (s : Script) (start : LinkModel) (ls : List Line) (opens : start ≡ link_of s lent_rows) where
-  told_by : (b : Bool) (cs : List LinkCall) (told : List Line) (n : LinkModel) → start.terms.shut ≡ b → LinkHistory start cs n → AsksOf b s cs told → ls ≡ opening_line b ∷ told → LeastTold s ls
-  told_by b cs told n is-shut made asks lines =
-      let shut : b ≡ (link_of s lent_rows).terms.shut = sym is-shut ∙ ap (λ (m : LinkModel). m.terms.shut) opens in
+module _ (s : Script) (rows : List LinkRow) (size : length rows ≡ 32) (start : LinkModel) (first : List Line) (opening : Opening s.longest rows 256 start first) where
+  told_by : (b : Bool) (cs : List LinkCall) (told : List Line) (n : LinkModel) (ls : List Line) → start.terms.shut ≡ b → LinkHistory start cs n → AsksOf b s cs told → ls ≡ Opened b ∷ told → LeastTold s ls
+  told_by b cs told n ls is-shut made asks lines =
+      let shut : b ≡ (link_of s rows).terms.shut = sym is-shut ∙ ap (λ (m : LinkModel). m.terms.shut) opening.opens in
       record {
-        rows = lent_rows;
-        thirty_two = refl;
+        rows = rows;
+        thirty_two = size;
         calls = cs;
         last = n;
-        history = subst (λ (m : LinkModel). LinkHistory m cs n) opens made;
+        history = subst (λ (m : LinkModel). LinkHistory m cs n) opening.opens made;
         told = told;
         made = subst (λ (q : Bool). AsksOf q s cs told) shut asks;
-        printed = lines ∙ ap (λ (q : Bool). opening_line q ∷ told) shut;
+        printed = lines ∙ ap (λ (q : Bool). Opened q ∷ told) shut;
       }
 
   -- the link opened shut
-  pub told_shut : start.terms.shut ≡ true → ls ≡ opening_line start.terms.shut ∷ [] → LeastTold s ls
-  told_shut is-shut lines = told_by true [] [] start is-shut history.opening (refl, refl) (lines ∙ ap (λ (q : Bool). opening_line q ∷ []) is-shut)
+  pub told_shut : start.terms.shut ≡ true → LeastTold s first
+  told_shut is-shut = told_by true [] [] start first is-shut history.opening (refl, refl) (opening.printed ∙ ap (λ (q : Bool). Opened q ∷ []) is-shut)
 
   -- all channels were asked for
-  pub told_all : (ks : List Line) (n : LinkModel) → start.terms.shut ≡ false → ks ≡ opening_line start.terms.shut ∷ [] → Asking s.channels start ks n ls → LeastTold s ls
-  told_all ks n is_open first (cs, told, h, asks, is) =
-      told_by false cs told n is_open h asks (is ∙ ap (λ ys. ys ++ told) (first ∙ ap (λ (q : Bool). opening_line q ∷ []) is_open))
+  pub told_all : (ls : List Line) (n : LinkModel) → start.terms.shut ≡ false → Asking s.channels start first n ls → LeastTold s ls
+  told_all ls n is_open (cs, told, h, asks, is) =
+      told_by false cs told n ls is_open h asks (is ∙ ap (λ ys. ys ++ told) (opening.printed ∙ ap (λ (q : Bool). Opened q ∷ []) is_open))

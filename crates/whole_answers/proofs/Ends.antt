@@ -6,21 +6,21 @@ use Rattle.link.specs.History.{held, confirmed, cancelled, released, offered, bu
 use Rattle.link.specs.declared.state.Sent.{Sent}
 use Rattle.whole_answers.specs.Kinds.{Kind, LinkCall}
 use Rattle.whole_answers.specs.Prints.{end_line, lines_at, lines_of, ends_told}
-use Rattle.whole_answers.specs.declared.lines.Line.{Line}
-use Rattle.whole_answers.specs.declared.lines.Line.TheVariants.{Malformed, Opened, Spaced, Bucket, Offered, Bulk, Released, Ended, Stopped, Least}
+use Rattle.lines.specs.declared.Line.{Line}
+use Rattle.lines.specs.declared.Line.TheVariants.{Malformed, Opened, Spaced, Bucket, Offered, Bulk, Released, Ended, Stopped, Least}
 
 told_append : (ls ks : List Line) → ends_told (ls ++ ks) ≡ ends_told ls ++ ends_told ks
 told_append [] ks = refl
 told_append (Malformed sec num ∷ ls) ks = told_append ls ks
-told_append (Opened number ∷ ls) ks = told_append ls ks
-told_append (Spaced a ∷ ls) ks = told_append ls ks
-told_append (Bucket a ∷ ls) ks = told_append ls ks
-told_append (Offered mat number ∷ ls) ks = told_append ls ks
-told_append (Bulk number ∷ ls) ks = told_append ls ks
-told_append (Released mat number ∷ ls) ks = told_append ls ks
+told_append (Opened shut ∷ ls) ks = told_append ls ks
+told_append (Spaced mat r ∷ ls) ks = told_append ls ks
+told_append (Bucket mat r ∷ ls) ks = told_append ls ks
+told_append (Offered mat r ∷ ls) ks = told_append ls ks
+told_append (Bulk r ∷ ls) ks = told_append ls ks
+told_append (Released mat r ∷ ls) ks = told_append ls ks
 told_append (Ended mat clock ∷ ls) ks = ap (λ xs. (mat, clock) ∷ xs) (told_append ls ks)
-told_append (Stopped number ∷ ls) ks = told_append ls ks
-told_append (Least mat number allowance point ∷ ls) ks = told_append ls ks
+told_append (Stopped e ∷ ls) ks = told_append ls ks
+told_append (Least mat r ∷ ls) ks = told_append ls ks
 
 told_cond : (b : Bool) (x : ℕ × ℕ) → ends_told (map end_line (cond b (x ∷ []) [])) ≡ cond b (x ∷ []) []
 told_cond true x = refl

@@ -1,5 +1,5 @@
 -- Parts of a run, one after the other.
-use Rattle.std.proofs.Common.{◌≡◌, ℕ, ◌+◌, ◌<◌, ◌≤◌, true, false, List, [], ◌∷◌, ◌++◌, map, length, get_or, take, Ok, Err, Result, sym, refl, ap, ◌∙◌, subst, append_assoc, append-nil, arith, take_all}
+use Rattle.std.proofs.Common.{◌≡◌, ℕ, ◌+◌, ◌<◌, ◌≤◌, List, [], ◌∷◌, ◌++◌, map, length, get_or, take, Ok, Err, Option, Result, sym, refl, ap, ◌∙◌, subst, append_assoc, append-nil, arith, take_all}
 use Rattle.std.proofs.lemmas.List.{take_more}
 use Rattle.plan.specs.declared.Call.{Call}
 use Rattle.plan.specs.declared.Call.TheVariants.{Offer, Bulk, Release}
@@ -7,16 +7,19 @@ use Rattle.plan.specs.declared.Channel.{Channel}
 use Rattle.link.specs.Happenings.{happenings, clock_of, ending}
 use Rattle.link.specs.History as history
 use Rattle.link.specs.History.{held, released, offered, bulked, ticked}
-use Rattle.link.specs.Refusals.{answered}
+use Rattle.link.specs.Joining.{Joined}
 use Rattle.link.specs.Sending.{Offers, Bulks}
 use Rattle.link.specs.Settling.{Releases}
-use Rattle.link.specs.declared.refusals.Refusal.{Refusal}
-use Rattle.whole_answers.specs.Kinds.{LinkCall, LinkModel, LinkHistory, kind_numbers, kind_limits, kind_dated, kind_steps}
+use Rattle.link.specs.Ticking.{Ticks}
+use Rattle.link.specs.declared.state.Sent.{Sent}
+use Rattle.refusals.specs.declared.Refusal.{Refusal}
+use Rattle.lines.specs.Lines.{channel_line_lem}
+use Rattle.lines.specs.declared.Line.{Line}
+use Rattle.lines.specs.declared.Line.TheVariants as shown
+use Rattle.whole_answers.specs.Kinds.{LinkCall, LinkModel, LinkHistory, kind_numbers, kind_limits, kind_steps}
 use Rattle.whole_answers.specs.Plans.{Join, joining, Pass, none, one_more, Tick, all, stopped, Make, InTurn, begin, next}
-use Rattle.whole_answers.specs.Prints.{channel_line_lem, end_line, lines_at, lines_of}
-use Rattle.whole_answers.specs.Parts.{Part, Joined, Slot}
-use Rattle.whole_answers.specs.declared.lines.Line.{Line}
-use Rattle.whole_answers.specs.declared.lines.Line.TheVariants as shown
+use Rattle.whole_answers.specs.Prints.{end_line, lines_at, lines_of}
+use Rattle.whole_answers.specs.Parts.{Part}
 use Rattle.whole_answers.proofs.Clocks.{history_clock}
 
 -- what was printed, and what is printed now
@@ -38,15 +41,15 @@ module _ (m : LinkModel) (ls : List Line) (n : LinkModel) (ks : List Line) where
   )
 
   pub part_offered : (mat bytes : ℕ) (r : Result (Unit {0}) Refusal) → Offers kind_numbers kind_limits kind_steps m mat 0 bytes r n →
-      ks ≡ ls ++ shown.Offered mat (answered r) ∷ [] → Part (Make (Offer mat bytes)) m ls n ks
+      ks ≡ ls ++ shown.Offered mat r ∷ [] → Part (Make (Offer mat bytes)) m ls n ks
   part_offered mat bytes r said more =
       part_call (Make (Offer mat bytes)) (offered mat 0 bytes r) _ (λ start cs h. history.offer mat 0 bytes r h said) (λ s. refl) more (λ cs. (r, refl))
 
-  pub part_bulk : (bytes : ℕ) (r : Result (Unit {0}) Refusal) → Bulks m 0 bytes r n → ks ≡ ls ++ shown.Bulk (answered r) ∷ [] → Part (Make (Bulk bytes)) m ls n ks
+  pub part_bulk : (bytes : ℕ) (r : Result (Unit {0}) Refusal) → Bulks m 0 bytes r n → ks ≡ ls ++ shown.Bulk r ∷ [] → Part (Make (Bulk bytes)) m ls n ks
   part_bulk bytes r said more =
       part_call (Make (Bulk bytes)) (bulked 0 bytes r) _ (λ start cs h. history.bulk 0 bytes r h said) (λ s. refl) more (λ cs. (r, refl))
 
-  pub part_released : (mat : ℕ) (r : Result (Unit {0}) Refusal) → Releases m mat r n → ks ≡ ls ++ shown.Released mat (answered r) ∷ [] → Part (Make (Release mat)) m ls n ks
+  pub part_released : (mat : ℕ) (r : Result (Unit {0}) Refusal) → Releases m mat r n → ks ≡ ls ++ shown.Released mat r ∷ [] → Part (Make (Release mat)) m ls n ks
   part_released mat r said more =
       part_call (Make (Release mat)) (released mat r) _ (λ start cs h. history.release mat r h said) (λ s. refl) more (λ cs. (r, refl))
 
@@ -56,7 +59,7 @@ module _ (m : LinkModel) (ls : List Line) (n : LinkModel) (ks : List Line) where
       subst (λ (z : Call). Part (Make z) m ls n ks) (sym is_call) (subst (λ (z : LinkModel). Part (Make y) m ls z ks) (sym is-model) part)
 
   -- a channel joined
-  pub part_joined : (x : Channel) (r : Result ℕ Refusal) → Joined m x r n → ks ≡ ls ++ channel_line_lem x.kind x.mat r ∷ [] → Part (Join x) m ls n ks
+  pub part_joined : (x : Channel) (r : Result ℕ Refusal) → Joined kind_numbers kind_limits kind_steps m x.mat x.kind r n → ks ≡ ls ++ channel_line_lem x.kind x.mat r ∷ [] → Part (Join x) m ls n ks
   part_joined x (Err e) said more start first cs so =
       part_call (Join x) (held x.mat x.kind (Err e)) _ (λ start cs h. history.hold x.mat x.kind (Err e) h said) (λ s. refl) more (λ cs. (Err e, refl)) start first cs so
   part_joined x (Ok count) (h, o, granted, confirms) more start first cs so = (
@@ -93,12 +96,12 @@ module _ (m : LinkModel) (ls : List Line) where
   pass_none start first cs so = (cs, none, so)
 
   -- one slot more, with a line for the packet that ended with it
-  pub pass_more : (i : ℕ) (n o : LinkModel) (ks js : List Line) → Part (λ cs ds. Pass cs i ds) m ls n ks → Slot true n ks o js → Part (λ cs ds. Pass cs (i + 1) ds) m ls o js
-  pass_more i n o ks js before (carried, said, more) start first cs so =
+  pub pass_more : (i : ℕ) (n o : LinkModel) (ks js : List Line) (carried : Option Sent) → Part (λ cs ds. Pass cs i ds) m ls n ks → Ticks n (Ok carried) o → js ≡ ks ++ map end_line (ending carried o.clock) → Part (λ cs ds. Pass cs (i + 1) ds) m ls o js
+  pass_more i n o ks js carried before said more start first cs so =
       let there = before start first cs so in
       let ds = there.0 in
       let h : LinkHistory start (ticked (Ok carried) ∷ ds) o = history.tick (Ok carried) there.2.history said in
-      let since = history_clock kind_numbers kind_limits kind_steps kind_dated h in
+      let since = history_clock start o (ticked (Ok carried) ∷ ds) h in
       let zero-start = so.opened in
       let clock : o.clock ≡ clock_of (happenings ds) + 1 = omega arith in (
         ticked (Ok carried) ∷ ds,
@@ -111,8 +114,8 @@ module _ (m : LinkModel) (ls : List Line) where
       )
 
   -- a tick that was refused is the last
-  pub pass_stopped : (i count : ℕ) (n o : LinkModel) (ks js : List Line) → i < count → Part (λ cs ds. Pass cs i ds) m ls n ks → Slot false n ks o js → Part (Tick count) m ls o js
-  pass_stopped i count n o ks js few before (e, said, more) start first cs so =
+  pub pass_stopped : (i count : ℕ) (n o : LinkModel) (ks js : List Line) (e : Refusal) → i < count → Part (λ cs ds. Pass cs i ds) m ls n ks → Ticks n (Err e) o → js ≡ ks ++ shown.Stopped e ∷ [] → Part (Tick count) m ls o js
+  pass_stopped i count n o ks js e few before said more start first cs so =
       let there = before start first cs so in (
         ticked (Err e) ∷ there.0,
         stopped few there.1 e,

@@ -1,27 +1,9 @@
--- What the course program prints for a text.
-use Rattle.std.specs.Prelude.{◌≡◌, ℕ, List, [], ◌∷◌, Ok, Err, Result}
-use Rattle.plan.specs.Format.{Script, script}
-use Rattle.plan.specs.Reading.{Read}
-use Rattle.plan.specs.declared.Fault.{Fault}
-use Rattle.plan.specs.declared.Fault.TheVariants as fault
-use Rattle.plan.specs.declared.Plan.{Plan}
+-- What the course programs print for a text.
+use Rattle.std.specs.Prelude.{ℕ, List}
+use Rattle.lines.specs.Texts.{Told}
+use Rattle.lines.specs.declared.Line.{Line}
 use Rattle.whole_answers.specs.Least.{LeastTold}
 use Rattle.whole_answers.specs.Runs.{Ran}
-use Rattle.whole_answers.specs.declared.lines.Line.{Line}
-use Rattle.whole_answers.specs.declared.lines.Line.TheVariants.{Malformed}
-
--- a text that is not read: its place alone
-abbrev pub Refused : Fault → List Line → Type 0
-Refused (fault.Malformed sec num) ls = ls ≡ Malformed sec num ∷ []
-Refused fault.NoMemory ls = ⊥
-
--- the lines of a text, by what reading it answers and what is told of a plan
-abbrev pub ToldOf : (Script → List Line → Type 0) → Result Plan Fault → List Line → Type 0
-ToldOf Tells (Ok plan) ls = Tells (script plan) ls
-ToldOf Tells (Err e) ls = Refused e ls
-
-abbrev pub Told : (Script → List Line → Type 0) → List ℕ → List Line → Type 0
-Told Tells bytes ls = (r : Result Plan Fault) × Read bytes r × ToldOf Tells r ls
 
 -- the lines of the course program: a plan is run
 abbrev pub Answered : List ℕ → List Line → Type 0

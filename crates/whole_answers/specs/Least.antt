@@ -1,26 +1,16 @@
 -- What is told of the least allowances of a plan's channels.
-use Rattle.std.specs.Prelude.{◌≡◌, ℕ, Bool, true, false, cond, List, [], ◌∷◌, ◌++◌, length, Ok, Err, Result, ◌==◌}
+use Rattle.std.specs.Prelude.{◌≡◌, ℕ, Bool, true, false, List, [], ◌∷◌, ◌++◌, length, Result}
 use Rattle.plan.specs.Format.{Script}
 use Rattle.plan.specs.declared.Channel.{Channel}
 use Rattle.link.specs.History.{least_asked}
-use Rattle.link.specs.Refusals.{number, values}
-use Rattle.link.specs.declared.refusals.Refusal.{Refusal}
+use Rattle.refusals.specs.declared.Refusal.{Refusal}
 use Rattle.link.specs.declared.state.Hold.{Hold}
 use Rattle.whole_answers.specs.Kinds.{LinkCall, LinkModel, LinkRow, LinkHistory}
 use Rattle.whole_answers.specs.Plans.{joining}
-use Rattle.whole_answers.specs.Prints.{opening_line}
 use Rattle.whole_answers.specs.Runs.{link_of}
-use Rattle.whole_answers.specs.declared.lines.Line.{Line}
-use Rattle.whole_answers.specs.declared.lines.Line.TheVariants.{Least}
-
--- the allowance and the point that forbids one less, or the refusal's number and its point
-abbrev pub found_line : ℕ → Result (ℕ × ℕ) Refusal → Line
-found_line mat (Ok found) = Least mat 0 found.0 found.1
-found_line mat (Err e) = Least mat (number e) 0 (values e).0
-
--- a channel's line; mat 0 is refused first
-abbrev pub least_line_lem : ℕ → Result (ℕ × ℕ) Refusal → Line
-least_line_lem mat r = cond (mat == 0) (Least mat 2 0 0) (found_line mat r)
+use Rattle.lines.specs.Lines.{least_line_lem}
+use Rattle.lines.specs.declared.Line.{Line}
+use Rattle.lines.specs.declared.Line.TheVariants.{Opened}
 
 -- the least allowance of each channel is asked for and told, and then the channel is joined with its own
 pub data Asks : List Channel → List LinkCall → List Line → Type 0 where
@@ -49,4 +39,4 @@ pub record LeastTold (s : Script) (ls : List Line) : Type 0 where
   -- the lines after the first tell what was asked of each channel in turn
   pub told : List Line
   pub made : AsksOf (link_of s rows).terms.shut s calls told
-  pub printed : ls ≡ opening_line (link_of s rows).terms.shut ∷ told
+  pub printed : ls ≡ Opened (link_of s rows).terms.shut ∷ told

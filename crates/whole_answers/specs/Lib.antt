@@ -1,7 +1,6 @@
 pub mod Answers
 pub mod Kinds
 pub mod Least
-pub mod Lines
 pub mod Parts
 pub mod Plans
 pub mod Prints

@@ -5,7 +5,7 @@ use Rattle.plan.specs.declared.Call.{Call}
 use Rattle.plan.specs.declared.Call.TheVariants.{Offer, Bulk, Ticks, Release}
 use Rattle.plan.specs.declared.Channel.{Channel}
 use Rattle.link.specs.History.{held, confirmed, released, offered, bulked, ticked}
-use Rattle.link.specs.declared.refusals.Refusal.{Refusal}
+use Rattle.refusals.specs.declared.Refusal.{Refusal}
 use Rattle.link.specs.declared.state.Hold.{Hold}
 use Rattle.link.specs.declared.state.Sent.{Sent}
 use Rattle.whole_answers.specs.Kinds.{LinkCall}

@@ -1,61 +1,63 @@
-// A whole plan, run over a link.
-ghost use Rattle.std.specs.Prelude.{◌≡◌, [], ◌∷◌, IfOk};
+// A plan run on a link, with the lines that it prints.
+ghost use Rattle.std.specs.Prelude.{◌≡◌, [], ◌∷◌, length, IfOk};
 ghost use Rattle.plan.specs.Format.{script};
 ghost use Rattle.link.specs.Model.{model};
-ghost use Rattle.whole_answers.specs.Prints.{opening_line};
-ghost use Rattle.whole_answers.specs.Runs.{Ran};
+ghost use Rattle.whole_answers.specs.Runs.{Ran, Opening};
 
-use crate::calls::run_all;
-use crate::joins::join_all;
-use crate::lines::Line;
+use lines::Line;
 use link::state::{Link, Packet};
 use plan::{Kind, Plan};
 use std::alloc::{AllocError, Global};
-use traffic::Row;
-use traffic::mixture::{Mixture, MixtureState};
-use traffic::spaced::Spaced;
+use traffic::mixture::MixtureState;
+use traffic::{Row, Traffic};
 
-// A row of the memory that the link is lent: what was in it means nothing.
-pub(crate) const ROW: Row<Kind, MixtureState<Option<u32>, u64>> = Row {
-    kind: Mixture::First(Spaced {
-        period: 1,
-        longest: 1,
-        allowance: 1,
-    }),
-    state: MixtureState::OfFirst(None),
-};
+// A row of a plan's link.
+pub(crate) type LinkRow = Row<Kind, MixtureState<Option<u32>, u64>>;
 
-// A place of the waiting list, likewise.
-pub(crate) const PLACE: Packet = Packet {
-    due: 0,
-    mat: 0,
-    count: 0,
-    place: 0,
-    bytes: 0,
-};
+// A link on which a plan is run, and the lines so far.
+#[derive(Drop)]
+pub(crate) struct Run<'a> {
+    pub(crate) link: Link<'a, Kind>,
+    pub(crate) lines: Vec<Line>,
+}
 
-// The first line: how the link opened.
-pub(crate) fn opening(heap: Global, link: &Link<'_, Kind>) -> Result<Vec<Line>, AllocError>
-    ensures { IfOk result (λ ls. ls.items ≡ opening_line (model link.now).terms.shut ∷ []) }
-{
-    let mut lines = Vec::new(heap);
-    let number = if link.shut() { 1 } else { 0 };
-    lines.push(Line::Opened { number })?;
-    Ok(lines)
+impl<'a> Run<'a> {
+    // Opens the link over this memory; the first line says how.
+    pub(crate) fn open(
+        heap: Global,
+        longest: u32,
+        rows: &'a mut [LinkRow],
+        places: &'a mut [Packet],
+    ) -> Result<Run<'a>, AllocError>
+        ensures { IfOk result (λ run. Opening longest rows.old (length places.old) (model run.link) run.lines.items) }
+    {
+        let link = Link::open(0, longest, rows, places);
+        let shut = link.shut();
+        let lines = vec![in heap; Line::Opened { shut }]?;
+        Ok(Run { link, lines })
+    }
+}
+
+// What was in a row of the memory that the link is lent means nothing.
+pub(crate) fn blank() -> LinkRow {
+    let kind = Kind::spaced(1, 1, 1);
+    Row {
+        kind,
+        state: kind.fresh(),
+    }
 }
 
 // The lines of a plan: its channels joined and its calls made on a link of 32 rows and 256 places.
-pub(crate) fn run(heap: Global, plan: &Plan) -> Result<Vec<Line>, AllocError>
+pub(crate) fn run_plan(heap: Global, plan: &Plan) -> Result<Vec<Line>, AllocError>
     ensures { IfOk result (λ ls. Ran (script plan.now) ls.items) }
 {
-    let mut rows = [ROW; 32];
-    let mut places = [PLACE; 256];
-    let mut link = Link::open(0, plan.longest, &mut rows, &mut places);
-    let mut lines = opening(heap, &link)?;
-    if link.shut() {
-        return Ok(lines);
+    let mut rows = [blank(); 32];
+    let mut places = [Packet::default(); 256];
+    let mut run = Run::open(heap, plan.longest, &mut rows, &mut places)?;
+    if run.link.shut() {
+        return Ok(run.lines);
     }
-    join_all(&mut link, &plan.channels, &mut lines)?;
-    run_all(&mut link, &plan.calls, &mut lines)?;
-    Ok(lines)
+    run.join_all(&plan.channels)?;
+    run.call_all(&plan.calls)?;
+    Ok(run.lines)
 }

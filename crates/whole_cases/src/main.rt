@@ -1,24 +1,13 @@
 // Runs the course program's library on worked cases; what it prints is compared.
 #![tactic(auto)]
 
+use lines::cases::{AT_ONCE, FULL, LIMITS, SHUT_MALFORMED, SOONER, THREE};
+use lines::replies::show;
 use std::{fs, io};
 use whole_answers::answer;
 
-// Three spaced channels that the air just carries together under packets of up to 4 slots.
-const THREE: &[u8] = b"1\nP 4\n3\nS 1 10 2 5\nS 2 8 4 9\nS 3 12 3 18\n0\n";
-// The third a slot sooner: the point 17 fails.
-const SOONER: &[u8] = b"1\nP 4\n3\nS 1 10 2 5\nS 2 8 4 9\nS 3 12 3 17\n0\n";
-// One packet of a slot in every slot, due at once: a packet of 2 slots may hold it up.
-const AT_ONCE: &[u8] = b"1\nP 2\n1\nS 1 1 1 1\n0\n";
-// A slot later it is granted, and then the air is full.
-const FULL: &[u8] = b"1\nP 2\n2\nS 1 1 1 2\nS 2 5040 1 1\n0\n";
-// Mat 0, a period that does not divide the frame, an allowance above and at its limit, a mat asked for twice.
-const LIMITS: &[u8] =
-    b"1\nP 4\n5\nS 0 10 2 5\nS 1 11 2 5\nS 1 10 2 40321\nS 1 10 2 40320\nB 1 10 2 3 9\n0\n";
-// A link that opens shut, so that its calls are not made; a malformed plan for such a link.
+// A link that opens shut, so that its calls are not made.
 const SHUT: &[u8] = b"1\nP 256\n1\nS 1 10 2 5\n1\nT 1\n";
-
-const SHUT_MALFORMED: &[u8] = b"1\nP 0\n0\n1\n";
 
 // Offers for mat 0, of no bytes, of too many bytes, for a mat with no channel, of a packet that is too long for its channel.
 const OFFERS: &[u8] = b"1\nP 4\n1\nS 1 10 2 20\n5\nO 0 32\nO 1 0\nO 1 8161\nO 3 32\nO 1 65\n";
@@ -34,25 +23,18 @@ const BULK: &[u8] =
 // The end of the clock: the tick after it is refused, and the rest of its ticks are dropped.
 const CLOCK_END: &[u8] = b"1\nP 1\n0\n2\nT 2000000000\nT 5\n";
 
-fn show(rt: &HostRuntime, text: &[u8]) -> io::Result<()> {
-    println!(rt; "--")?;
-    for line in answer(rt.alloc(), text)? {
-        println!(rt; "{line}")?;
-    }
-    Ok(())
-}
-
 fn main(rt: HostRuntime) -> io::Result<()> {
+    let mut output = io::writer(&rt);
     for text in [THREE, SOONER, AT_ONCE, FULL, LIMITS, SHUT, SHUT_MALFORMED] {
-        show(&rt, text)?;
+        show(&mut output, text, |text| answer(rt.alloc(), text))?;
     }
     for text in [OFFERS, STEPS, RELEASES, BULK, CLOCK_END] {
-        show(&rt, text)?;
+        show(&mut output, text, |text| answer(rt.alloc(), text))?;
     }
     // in the last, 256 packets wait, and one more is refused
     for name in ["track-meet.plan", "trail-course.plan", "full-list.plan"] {
         let text = fs::read(&rt, name)?;
-        show(&rt, &text)?;
+        show(&mut output, &text, |text| answer(rt.alloc(), text))?;
     }
     Ok(())
 }

@@ -2,15 +2,16 @@
 // joined before it.
 #![tactic(auto)]
 
+use lines::replies::reply;
 use std::io;
-use std::io::Read;
 use whole_answers::least;
 
 fn main(rt: HostRuntime) -> io::Result<()> {
-    let mut text = Vec::new(rt.alloc());
-    rt.stdin().read_to_end(&mut text)?;
-    for line in least(rt.alloc(), &text)? {
-        println!(rt; "{line}")?;
-    }
-    Ok(())
+    let mut output = io::writer(&rt);
+    reply(
+        rt.alloc(),
+        &mut rt.stdin(),
+        &mut output,
+        |text| least(rt.alloc(), text),
+    )
 }

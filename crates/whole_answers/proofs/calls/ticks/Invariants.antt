@@ -1,8 +1,0 @@
-use Rattle.std.proofs.Common.{vec_items}
-use Rattle.link.specs.Model.{model}
-use Rattle.whole_answers.specs.Parts.{Part}
-use Rattle.whole_answers.specs.Plans.{Pass}
-use Rattle.whole_answers.proofs.calls.ticks.Given as goal
-
-abbrev pub invariant-loop : goal.invariant-loop
-invariant-loop l = Part (λ cs ds. Pass cs l.counter ds) (model l.initial.link) (vec_items l.initial.lines) (model l.link) (vec_items l.lines)
