@@ -77,7 +77,8 @@ impl<'a, K: Traffic> Link<'a, K> {
             && (1..=256).contains(&self.waiting.capacity()))
     }
 
-    // Refuses where the link is shut.
+    // Refuses where the link is shut. What needs an open link inside asks for it by a clause: a type for an open link would have to borrow it,
+    // and so could not be held over the calls that change it.
     pub(crate) fn opened(&self) -> Result<(), Refusal>
         ensures { result ≡ (if (model self.now).terms.shut then Err Refusal.Shut else Ok tt) }
     {

