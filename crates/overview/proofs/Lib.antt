@@ -1,4 +1,4 @@
-mod Joining
+mod Granting
 mod Rising
 mod Rowwise
 mod Tightening

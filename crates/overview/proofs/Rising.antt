@@ -11,7 +11,7 @@ use Rattle.verdict.specs.Demand.{curves}
 use Rattle.verdict.proofs.FinitePoints.{curves_never_fall}
 use Rattle.verdict.proofs.Totals.{total-push}
 use Rattle.overview.specs.Picture.{sooner}
-use Rattle.overview.specs.Standing.{kinds}
+use Rattle.verdict.specs.Members.{kinds}
 use Rattle.overview.proofs.Rowwise.{kinds_push}
 
 module _ (F G sum : ℕ → ℕ) (up-F : (t u : ℕ) → t ≤ u → F t ≤ F u) (up-G : (t u : ℕ) → t ≤ u → G t ≤ G u) (is : (v : ℕ) → sum v ≡ F v + G v) where

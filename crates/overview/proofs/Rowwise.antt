@@ -14,7 +14,8 @@ use Rattle.traffic.specs.Curves.{Numbers}
 use Rattle.traffic.specs.Laws.{Within, CurveLaws}
 use Rattle.traffic.specs.declared.Row.{Row}
 use Rattle.verdict.specs.Demand.{total, largest, curves}
-use Rattle.overview.specs.Standing.{kinds, Stands}
+use Rattle.verdict.specs.Members.{kinds}
+use Rattle.overview.specs.Standing.{Stands}
 
 pub kinds_push : {K S : Type 0} (rs : List (Row K S)) (r : Row K S) → kinds (rs ++ r ∷ []) ≡ kinds rs ++ r.kind ∷ []
 kinds_push rs r = map-append (λ x. x.kind) rs (r ∷ [])

@@ -2,12 +2,12 @@
 use Rattle.std.specs.Prelude.{◌≡◌, ℕ, ◌+◌, ◌-◌, ◌<◌, ◌≤◌, min, cond, List, Some, None, Option, nat_le}
 use Rattle.traffic.specs.Curves.{Rises}
 use Rattle.traffic.specs.declared.Curve.{Ghosts as CurveGhosts}
-use Rattle.overview.specs.Standing.{kinds}
-use Rattle.overview.specs.declared.rows.Granted.{Granted}
+use Rattle.verdict.specs.Members.{kinds}
+use Rattle.overview.specs.declared.rows.Picture.{Picture}
 use Rattle.overview.specs.declared.rows.Point.{Point}
 
-abbrev pub channels : {K S : Type 0} {c : CurveGhosts K} → Granted K S c → List K
-channels g = kinds g.rows.now
+abbrev pub channels : {K S : Type 0} {c : CurveGhosts K} → Picture K S c → List K
+channels s = kinds s.rows.now
 
 -- the smaller of two, where there are two
 abbrev pub sooner : Option ℕ → Option ℕ → Option ℕ

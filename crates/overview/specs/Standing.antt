@@ -1,14 +1,9 @@
 -- Channels that stand together on a link.
-use Rattle.std.specs.Prelude.{ℕ, Bool, List, map, length}
+use Rattle.std.specs.Prelude.{ℕ, Bool, List, length}
 use Rattle.traffic.specs.Curves.{Numbers}
-use Rattle.traffic.specs.declared.Row.{Row}
 use Rattle.verdict.specs.Demand.{blocking}
 use Rattle.verdict.specs.Judged.{Judgeable}
 use Rattle.verdict.specs.Passes.{Passes}
-
--- the kinds in some rows
-abbrev pub kinds : {K S : Type 0} → List (Row K S) → List K
-kinds rs = map (λ r. r.kind) rs
 
 -- at most 32 channels, each within its limits, that pass together under the longest packet p
 pub record Stands {K : Type 0} (m : K → Numbers) (limits : K → ℕ → Bool) (p : ℕ) (ks : List K) : Type 0 where

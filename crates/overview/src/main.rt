@@ -4,25 +4,27 @@
 
 ghost use Rattle.std.specs.Prelude.{◌<◌, ◌≤◌, IfOk};
 ghost use Rattle.plan.specs.Kinds.{kind_numbers, kind_limits};
-ghost use Rattle.overview.specs.Standing.{kinds, Stands};
+ghost use Rattle.answers.specs.Granted.{kinds};
+ghost use Rattle.overview.specs.Standing.{Stands};
 
-mod grants;
 mod points;
+mod reasons;
 mod rows;
 
-use grants::{Reason, may_join};
-use plan::{Channel, Fault, Kind, Plan, read};
+use answers::decisions::Granted;
+use plan::{Channel, Fault, Plan, read};
 use points::rises;
-use rows::{Granted, Point, Sender};
+use reasons::Reason;
+use rows::{Picture, Point};
 use std::alloc::{AllocError, Global};
 use std::io;
 use std::io::Read;
+use traffic::Curve;
 use traffic::bucket::Bucket;
 use traffic::mixture::Mixture;
 use traffic::spaced::Spaced;
-use traffic::{Curve, Row};
 
-// The rows' letters.
+// The letters of the rows, in order.
 const LETTERS: [u8; 32] = *b"ABCDEFGHIJKLMNOPQRSTUVWXYZabcdef";
 
 // How many points are shown at most.
@@ -32,19 +34,20 @@ const MOST_POINTS: u32 = 40;
 const LONGEST_BAR: u64 = 40;
 
 // The letters of the channels that rise at t, with a dot for each other.
-fn marks<K: Curve>(
+fn marks<K: Curve, S: Copy>(
     heap: Global,
-    granted: &Granted<'_, K, Sender>,
+    picture: &Picture<'_, K, S>,
     t: u32,
 ) -> Result<String, AllocError>
     requires { 0 < t }
 {
-    granted
+    picture
         .rows
         .iter()
-        .map(|row| {
+        .zip(&LETTERS)
+        .map(|(row, letter)| {
             if rises(&row.kind, t) {
-                row.state.letter
+                char::from(*letter)
             } else {
                 '.'
             }
@@ -62,15 +65,18 @@ fn bar(heap: Global, slots: u64) -> Result<String, AllocError> {
 }
 
 // A line for each of the first points: up to twice the largest allowance, and not too many.
-fn print_points<K: Curve>(rt: &HostRuntime, granted: &Granted<'_, K, Sender>) -> io::Result<()> {
+fn print_points<K: Curve, S: Copy>(
+    rt: &HostRuntime,
+    picture: &Picture<'_, K, S>,
+) -> io::Result<()> {
     println!(rt; "\n    t demand  slack  rises")?;
-    let end = 2 * granted.largest_allowance() + 1;
+    let end = 2 * picture.largest_allowance() + 1;
     let mut after = 0;
     for _ in 0..MOST_POINTS {
-        let Some(Point { t, demand, slack }) = granted.point_after(after, end) else {
+        let Some(Point { t, demand, slack }) = picture.point_after(after, end) else {
             break;
         };
-        let marks = marks(rt.alloc(), granted, t)?;
+        let marks = marks(rt.alloc(), picture, t)?;
         let bar = bar(rt.alloc(), slack)?;
         println!(rt; "{t:>5} {demand:>6} {slack:>6}  {marks} {bar}")?;
         after = t;
@@ -79,11 +85,11 @@ fn print_points<K: Curve>(rt: &HostRuntime, granted: &Granted<'_, K, Sender>) ->
 }
 
 // The table of points, and below it the smallest slack of all.
-fn print_table<K: Curve>(rt: &HostRuntime, granted: &Granted<'_, K, Sender>) -> io::Result<()> {
-    let Some(Point { t, slack, .. }) = granted.tightest() else {
+fn print_table<K: Curve, S: Copy>(rt: &HostRuntime, picture: &Picture<'_, K, S>) -> io::Result<()> {
+    let Some(Point { t, slack, .. }) = picture.tightest() else {
         return println!(rt; "no channel is granted");
     };
-    print_points(rt, granted)?;
+    print_points(rt, picture)?;
     println!(rt; "\nsmallest slack: {slack} slots, at {t}")
 }
 
@@ -114,31 +120,22 @@ fn print_channel(rt: &HostRuntime, letter: char, channel: &Channel) -> io::Resul
 }
 
 // Takes the channels in turn, as a link would, and prints what becomes of each. Those granted stand together.
-fn take_channels(
-    rt: &HostRuntime,
-    longest: u32,
-    channels: &[Channel],
-) -> io::Result<Vec<Row<Kind, Sender>>>
+fn take_channels(rt: &HostRuntime, longest: u32, channels: &[Channel]) -> io::Result<Granted>
     requires least { 1 ≤ longest }
     requires most { longest ≤ 255 }
-    ensures { IfOk result (λ rows. Stands kind_numbers kind_limits longest (kinds rows.items)) }
+    ensures { IfOk result (λ granted. Stands kind_numbers kind_limits longest (kinds granted)) }
 {
-    let mut rows = Vec::new(rt.alloc());
+    let mut granted = Granted::new(rt.alloc(), longest);
     for channel in channels {
-        let mat = channel.mat;
-        match may_join(&rows, longest, mat, channel.kind) {
-            Err(refusal) => println!(rt; "- mat {mat}: refused, {}", Reason(refusal))?,
-            Ok(()) => {
-                let letter = char::from(LETTERS[rows.len()]);
-                rows.push(Row {
-                    kind: channel.kind,
-                    state: Sender { letter, mat },
-                })?;
-                print_channel(rt, letter, channel)?;
-            }
+        let place = granted.rows().len();
+        let decision = granted.decide(channel);
+        granted.count(channel, decision)?;
+        match decision {
+            Ok(_) => print_channel(rt, char::from(LETTERS[place]), channel)?,
+            Err(refusal) => println!(rt; "- mat {}: refused, {}", channel.mat, Reason(refusal))?,
         }
     }
-    Ok(rows)
+    Ok(granted)
 }
 
 // The picture of a plan; a link that would open shut has none.
@@ -149,11 +146,11 @@ fn print_picture(rt: &HostRuntime, plan: &Plan) -> io::Result<()> {
     }
     let blocking = longest - 1;
     println!(rt; "longest packet {longest} slots, blocking {blocking} slots")?;
-    let rows = take_channels(rt, longest, &plan.channels)?;
+    let granted = take_channels(rt, longest, &plan.channels)?;
     print_table(
         rt,
-        &Granted {
-            rows: &rows,
+        &Picture {
+            rows: granted.rows(),
             longest,
         },
     )

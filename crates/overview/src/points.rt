@@ -5,7 +5,7 @@ ghost use Rattle.traffic.specs.Laws.{Within};
 ghost use Rattle.verdict.specs.Demand.{curves, largest};
 ghost use Rattle.overview.specs.Picture.{channels, sooner, closer, NextPoint, Tightest};
 
-use crate::rows::{Granted, Point};
+use crate::rows::{Picture, Point};
 use traffic::{Curve, FRAME};
 
 // The smaller of two, where there are two.
@@ -27,7 +27,7 @@ pub(crate) fn rises<K: Curve>(kind: &K, t: u32) -> bool
     kind.curve(t - 1) < kind.curve(t)
 }
 
-impl<'a, K: Curve, S: Copy> Granted<'a, K, S> {
+impl<'a, K: Curve, S: Copy> Picture<'a, K, S> {
     // The most that the channels can offer from some slot a on and have due by a + t.
     fn demand(&self, t: u32) -> u64
         ensures { result ≡ curves K.Curve.numbers (channels self.now) t }

@@ -1,19 +1,13 @@
-// The rows of the picture.
+// What the picture shows.
 ghost use Rattle.std.proofs.Props.{props};
-ghost use Rattle.overview.specs.Standing.{kinds, Stands};
+ghost use Rattle.verdict.specs.Members.{kinds};
+ghost use Rattle.overview.specs.Standing.{Stands};
 
 use traffic::{Curve, Row};
 
-// Who sends in a row: its letter in the picture and its mat.
-#[derive(Clone, Copy)]
-pub(crate) struct Sender {
-    pub(crate) letter: char,
-    pub(crate) mat: u8,
-}
-
-// The channels granted on a link whose longest packet has `longest` slots.
+// The granted channels of a link whose longest packet has `longest` slots.
 #[derive(Drop)]
-pub(crate) struct Granted<'a, K: Curve, S> {
+pub(crate) struct Picture<'a, K: Curve, S> {
     pub(crate) rows: &'a [Row<K, S>],
     pub(crate) longest: u32,
     ghost stands: { Stands K.Curve.numbers K.Curve.limits longest (kinds rows.now) } by { Prim.hlevel props },

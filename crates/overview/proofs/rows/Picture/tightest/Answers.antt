@@ -3,7 +3,7 @@ use Rattle.verdict.specs.Demand.{curves, horizon}
 use Rattle.verdict.proofs.Rowwise.{row_laws}
 use Rattle.overview.specs.Picture.{channels, NextPoint}
 use Rattle.overview.proofs.Tightening.{SoFar, no_point_at_zero, one_more_so_far, tightest_of_all}
-use Rattle.overview.proofs.rows.Granted.tightest.Goals as goal
+use Rattle.overview.proofs.rows.Picture.tightest.Goals as goal
 
 pub loop-point-init : goal.loop-point-init
 loop-point-init g c = no_point_at_zero _ _ _ (row_laws _ _ g.met.K.Curve.shaped c.args.self.now.stands.judged) c.args.self.now.stands.passes.works_fit

@@ -3,7 +3,7 @@ use Rattle.std.proofs.lemmas.Iterator.{YieldsList-from_slice, YieldsList-from_ma
 use Rattle.std.proofs.lemmas.Iterator.Consumers.{YieldsList-at, sum_by_from_yields_List, fits_by_from_yields_list}
 use Rattle.traffic.specs.declared.Row.{Row}
 use Rattle.overview.proofs.Rowwise.{serves_rows, demand_small, total_of_rows}
-use Rattle.overview.proofs.rows.Granted.demand.Goals as goal
+use Rattle.overview.proofs.rows.Picture.demand.Goals as goal
 
 pub sum-requires-clause-can : goal.sum-requires-clause-can
 sum-requires-clause-can g c = (tt, serves_rows _ _ _ _ c.args.self.now.stands _ _ _ _ (cc) (λ q x w. search (rules, w)))

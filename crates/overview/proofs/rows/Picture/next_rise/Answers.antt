@@ -6,7 +6,7 @@ use Rattle.verdict.proofs.Rowwise.{row_laws}
 use Rattle.overview.specs.Picture.{sooner}
 use Rattle.overview.proofs.Rising.{Next, none_rises, next_sooner}
 use Rattle.overview.proofs.Rowwise.{serves_rows, rows_hold}
-use Rattle.overview.proofs.rows.Granted.next_rise.Goals as goal
+use Rattle.overview.proofs.rows.Picture.next_rise.Goals as goal
 
 pub fold-requires-clause-callable : goal.fold-requires-clause-callable
 fold-requires-clause-callable g c = serves_rows _ _ _ _ c.args.self.now.stands _ _ _ _ (cc) (λ q x w. search (rules, w))

@@ -7,7 +7,7 @@ use Rattle.traffic.specs.declared.Row.{Row}
 use Rattle.verdict.proofs.Rowwise.{row_laws}
 use Rattle.overview.specs.Picture.{channels}
 use Rattle.overview.proofs.Rowwise.{serves_rows, allowances_small, largest_of_rows}
-use Rattle.overview.proofs.rows.Granted.largest_allowance.Goals as goal
+use Rattle.overview.proofs.rows.Picture.largest_allowance.Goals as goal
 
 pub max-requires-clause-can : goal.max-requires-clause-can
 max-requires-clause-can g c = (tt, serves_rows _ _ _ _ c.args.self.now.stands _ _ _ _ (cc) (λ q x w. search (rules, w)))
