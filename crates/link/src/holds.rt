@@ -42,7 +42,9 @@ impl<'a, K: Traffic> Link<'a, K> {
         if self.serials == u32::MAX {
             return Err(Refusal::NoRow);
         }
-        let count = self.judged(kind)?;
+        let longest = self.longest;
+        let counted = self.table.counted();
+        let count = self.channels(&counted).with(kind).judge(longest)?;
         let state = kind.fresh();
         let hold = self.fill(i, mat, Row { kind, state });
         Ok((hold, count))
@@ -127,7 +129,8 @@ impl<'a, K: Traffic> Link<'a, K> {
         ensures { Stretches K.Curve.numbers K.Curve.limits (model self.now) result }
     {
         self.opened()?;
-        Ok(self.stretched()?)
+        let counted = self.table.counted();
+        Ok(self.channels(&counted).stretch(self.longest)?)
     }
 
     // The least allowance with which the kind would be granted, whatever it declares, and the point that forbids one slot less (0 if none does).
@@ -135,6 +138,7 @@ impl<'a, K: Traffic> Link<'a, K> {
         ensures { Leasts K.Curve.numbers K.Curve.limits K.Curve.dated (model self.now) kind result }
     {
         self.opened()?;
-        Ok(self.shortest(kind)?)
+        let counted = self.table.counted();
+        Ok(self.channels(&counted).least(kind, self.longest)?)
     }
 }

@@ -1,22 +1,18 @@
 // The link's rows, and its opening.
 ghost use Rattle.std.specs.Prelude.{◌≡◌, ℕ, ◌+◌, ◌<◌, ◌≤◌, Bool, true, false, [], ◌∷◌, ◌++◌, length, IfSome, Some, Ok, Err, map, if◌then◌else◌, slice_index_or};
 ghost use Rattle.std.specs.List.{slice_get};
-ghost use Rattle.verdict.specs.Judged.{Judged};
-ghost use Rattle.verdict.specs.Least.{Least};
 ghost use Rattle.verdict.specs.Members.{members, rows_counted, size};
-ghost use Rattle.verdict.specs.Stretches.{Stretched};
 ghost use Rattle.link.specs.Holding.{Vacant, hold_of, filled};
 ghost use Rattle.link.specs.Model.{model, opened, find, channels, with_rows, on_entry, on_row};
 ghost use Rattle.link.specs.Memory.{NothingLent, RowsOnly};
 ghost use Rattle.link.specs.Promise.{Promise};
-ghost use Rattle.link.specs.Rows.{blank, changed, counted as counted_lem, moved, is_free, counted_of, held_of};
+ghost use Rattle.link.specs.Rows.{blank, changed, counted, moved, is_free, counted_of, held_of};
 
 use crate::state::{Event, Hold, Link, Mat, Packet, Phase, Record, Table};
 use pool::Pool;
 use refusals::Refusal;
 use traffic::{Row, Traffic};
 use verdict::channels::Channels;
-use verdict::{Unfit, Verdict};
 
 impl<'a, K: Traffic> Link<'a, K> {
     // A link whose longest packet has `longest` slots, over memory that its owner lends: 1 to 32 rows and 1 to 256 places for waiting packets.
@@ -77,8 +73,7 @@ impl<'a, K: Traffic> Link<'a, K> {
             && (1..=256).contains(&self.waiting.capacity()))
     }
 
-    // Refuses where the link is shut. What needs an open link inside asks for it by a clause: a type for an open link would have to borrow it,
-    // and so could not be held over the calls that change it.
+    // Refuses where the link is shut.
     pub(crate) fn opened(&self) -> Result<(), Refusal>
         ensures { result ≡ (if (model self.now).terms.shut then Err Refusal.Shut else Ok tt) }
     {
@@ -162,44 +157,17 @@ impl<'a, K: Traffic> Link<'a, K> {
     }
 
     // The counted channels, by these marks of the counted rows.
-    fn channels<'b>(&'b self, counted: &'b [bool]) -> Channels<'b, K, K::State>
+    pub(crate) fn channels<'b>(&'b self, marks: &'b [bool]) -> Channels<'b, K, K::State>
         requires open { (model self.now).terms.shut ≡ false }
-        requires marks { counted.now ≡ map counted_lem self.now.table.records }
+        requires marked { marks.now ≡ map counted self.now.table.records }
         ensures size { size result ≡ length (model self.now).rows }
         ensures rows { rows_counted result ≡ channels (model self.now).rows }
         ensures members { members result ≡ channels (model self.now).rows }
     {
         Channels {
             rows: self.rows,
-            counted,
+            counted: marks,
             more: None,
         }
-    }
-
-    // What the verdict says of the counted channels with one more.
-    pub(crate) fn judged(&self, kind: K) -> Verdict
-        requires { (model self.now).terms.shut ≡ false }
-        ensures { Judged K.Curve.numbers K.Curve.limits self.now.longest (length (model self.now).rows) (channels (model self.now).rows ++ kind ∷ []) result }
-    {
-        let counted = self.table.counted();
-        self.channels(&counted).with(kind).judge(self.longest)
-    }
-
-    // The stretch of the counted channels.
-    pub(crate) fn stretched(&self) -> Result<u64, Unfit>
-        requires { (model self.now).terms.shut ≡ false }
-        ensures { Stretched K.Curve.numbers K.Curve.limits self.now.longest (length (model self.now).rows) (channels (model self.now).rows) result }
-    {
-        let counted = self.table.counted();
-        self.channels(&counted).stretch(self.longest)
-    }
-
-    // The least allowance of a kind beside the counted channels.
-    pub(crate) fn shortest(&self, kind: K) -> Result<(u32, u32), Unfit>
-        requires { (model self.now).terms.shut ≡ false }
-        ensures { Least K.Curve.numbers K.Curve.limits K.Curve.dated self.now.longest (length (model self.now).rows) (channels (model self.now).rows) kind result }
-    {
-        let counted = self.table.counted();
-        self.channels(&counted).least(kind, self.longest)
     }
 }

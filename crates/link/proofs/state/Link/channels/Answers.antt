@@ -10,10 +10,10 @@ pub returns : goal.returns
 returns g c =
     let es = c.args.self.now.table.records in
     let ws = c.args.self.now.rows.now in
-    let marks = marked ws c.args.counted.now in
+    let marks = marked ws c.args.marks.now in
     let few : length ws ≤ 32 = search rules in
     let full : length es ≡ 32 = c.args.self.now.table.full in
-    let rows : present marks ≡ channels (joined es ws) = marked_channels es ws c.args.counted.now c.requires.marks in
+    let rows : present marks ≡ channels (joined es ws) = marked_channels es ws c.args.marks.now c.requires.marked in
     record {
       size = sym (joined_length es ws (omega arith));
       rows = rows;
