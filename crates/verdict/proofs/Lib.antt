@@ -1,3 +1,4 @@
+pub mod Counting
 pub mod Counts
 pub mod Exactness
 pub mod FinitePoints

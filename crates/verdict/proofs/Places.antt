@@ -1,14 +1,10 @@
 -- The places of a table with marks, one by one.
-use Rattle.std.proofs.Common.{◌≡◌, ℕ, zero, suc, ◌+◌, ◌<◌, ◌≤◌, Bool, true, false, cond, List, [], ◌∷◌, ◌++◌, length, get_or, take, replicate, Some, None, Option, refl, ap, ◌∙◌, arith, length-append}
+use Rattle.std.proofs.Common.{◌≡◌, ℕ, zero, suc, ◌+◌, ◌<◌, Bool, true, false, cond, List, [], ◌∷◌, ◌++◌, length, get_or, take, replicate, Some, None, Option, refl, ap, ◌∙◌, arith, length-append, sym, subst, inr, ◌⊎◌}
+use Rattle.std.specs.Iterator.{YieldsFirst, item_count, MakesProgress}
+use Rattle.std.proofs.Math.ListN.{get_or-eq_default}
 use Rattle.std.proofs.lemmas.List.{take_more}
 use Rattle.traffic.specs.declared.Row.{Row}
 use Rattle.verdict.specs.Members.{marked, present, kinds}
-
--- past the end of the marks there is none
-pub no_mark : (bs : List Bool) (i : ℕ) → length bs ≤ i → get_or bs i false ≡ false
-no_mark [] i past = refl
-no_mark (b ∷ bs) zero past = absurd (omega arith)
-no_mark (b ∷ bs) (suc i) past = no_mark bs i (omega arith)
 
 module _ {K S : Type 0} where
   pub length_marked : (rs : List (Row K S)) (bs : List Bool) → length (marked rs bs) ≡ length rs
@@ -44,11 +40,7 @@ module _ {K S : Type 0} where
 
   -- and then none
   pub none_at : (rs : List (Row K S)) (bs : List Bool) (i : ℕ) (o : Option K) → length rs < i → get_or (marked rs bs ++ o ∷ []) i None ≡ None
-  none_at [] bs zero o h = absurd (omega arith)
-  none_at [] bs (suc i) o h = refl
-  none_at (r ∷ rs) bs zero o h = absurd (omega arith)
-  none_at (r ∷ rs) [] (suc i) o h = none_at rs [] i o (omega arith)
-  none_at (r ∷ rs) (b ∷ bs) (suc i) o h = none_at rs bs i o (omega arith)
+  none_at rs bs i o h = get_or-eq_default _ None {n = i} (omega (arith, length-places rs bs o))
 
 -- the channel at a place, as a list
 abbrev pub one : {K : Type 0} → Option K → List K
@@ -71,3 +63,26 @@ marked_all (r ∷ rs) (suc n) = ap (λ ks. r.kind ∷ ks) (marked_all rs n)
 -- the channels of one place more
 pub present_more : {K : Type 0} (os : List (Option K)) (i : ℕ) → i < length os → present (take (i + 1) os) ≡ present (take i os) ++ one (get_or os i None)
 present_more os i inside = ap present (take_more os i None inside) ∙ present_push (take i os) (get_or os i None)
+
+-- where the rows or the marks are at their end, only the one more is left
+pub last_left : {K S : Type 0} (rs : List (Row K S)) (bs : List Bool) (o : Option K) → (length rs ≡ 0) ⊎ (length bs ≡ 0) → present (marked rs bs ++ o ∷ []) ≡ one o
+last_left [] bs None end = refl
+last_left [] bs (Some k) end = refl
+last_left (r ∷ rs) [] o end = last_left rs [] o (inr refl)
+last_left (r ∷ rs) (b ∷ bs) o end = absurd (omega arith)
+
+module _ {S K : Type 0} (left : S → List K) (s t : S) where
+  yields_it : (o : Option K) → left s ≡ one o → left t ≡ [] → YieldsFirst left s o t
+  yields_it None is then = (is, then)
+  yields_it (Some k) is then = is ∙ ap (λ ks. k ∷ ks) (sym then)
+
+  -- it is taken, and nothing is left
+  pub yields_last : (o r : Option K) → r ≡ o → left s ≡ one o → left t ≡ [] → YieldsFirst left s r t
+  yields_last o r same is then = subst (λ x. YieldsFirst left s x t) (sym same) (yields_it o is then)
+
+  goes_it : (o : Option K) → left s ≡ one o → left t ≡ [] → MakesProgress (λ _. Unit {0}) (item_count left) s o t
+  goes_it None is then = record { on = λ _. tt; keeps = tt; rests = λ f. tt }
+  goes_it (Some k) is then = record { on = λ _. (tt, tt, omega (arith, ap length is, ap length then)); keeps = tt; rests = λ _. tt }
+
+  pub goes_last : (o r : Option K) → r ≡ o → left s ≡ one o → left t ≡ [] → MakesProgress (λ _. Unit {0}) (item_count left) s r t
+  goes_last o r same is then = subst (λ x. MakesProgress (λ _. Unit {0}) (item_count left) s x t) (sym same) (goes_it o is then)

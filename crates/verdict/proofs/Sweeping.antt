@@ -5,7 +5,7 @@ use Rattle.std.specs.List.{AllByRecursion}
 use Rattle.std.specs.List.Sorted.{IsPermutation}
 use Rattle.std.proofs.ByRecursion.{All-weaker, all_shuffled}
 use Rattle.std.proofs.lemmas.List.Sorted.{sum_by-IsPermutation}
-use Rattle.std.proofs.lemmas.List.Sums.{sum_by-cons}
+use Rattle.std.proofs.lemmas.List.Recursion.{is_sum_by}
 use Rattle.std.proofs.lemmas.Bool.{cases_lt}
 use Rattle.traffic.specs.Curves.{before, Rises, NextRise}
 use Rattle.traffic.specs.Staircase.{before_later}
@@ -19,8 +19,7 @@ use Rattle.verdict.proofs.Counts.{rises_level}
 -- sums over a list
 module _ {X : Type 0} where
   total-sum_by : (f : X → ℕ) (xs : List X) → total f xs ≡ sum_by f xs
-  total-sum_by f [] = refl
-  total-sum_by f (x ∷ xs) = ap (λ n. f x + n) (total-sum_by f xs) ∙ sym (sum_by-cons f x xs)
+  total-sum_by f xs = is_sum_by (total f) f refl (λ _ _. refl) xs
 
   pub total-shuffled : (f : X → ℕ) (xs ys : List X) → IsPermutation xs ys → total f ys ≡ total f xs
   total-shuffled f xs ys s = total-sum_by f ys ∙ sum_by-IsPermutation f xs ys s ∙ sym (total-sum_by f xs)

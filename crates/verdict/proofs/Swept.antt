@@ -1,5 +1,5 @@
 -- A sweep over the rows of a table, as a walk over the points of the sum of their curves.
-use Rattle.std.proofs.Common.{◌≡◌, ℕ, ◌+◌, ◌-◌, ◌<◌, ◌≤◌, false, List, [], ◌∷◌, ◌++◌, length, get_or, Some, None, Option, sym, refl, ap, ◌∙◌, subst, inl, inr, ⊎_elim, arith, below_more}
+use Rattle.std.proofs.Common.{◌≡◌, ℕ, ◌+◌, ◌-◌, ◌<◌, ◌≤◌, false, List, [], ◌∷◌, ◌++◌, length, get_or, Some, None, Ok, Err, Option, sym, ap, ◌∙◌, subst, ⊎_elim, arith, below_more}
 use Rattle.std.specs.Option.{option_to_list}
 use Rattle.std.specs.List.{AllByRecursion}
 use Rattle.std.specs.List.Sorted.{IsPermutation}
@@ -14,6 +14,7 @@ use Rattle.verdict.specs.Demand.{total, curves}
 use Rattle.verdict.specs.Members.{present}
 use Rattle.verdict.specs.Points.{Fits, rises, Walked, point_before}
 use Rattle.verdict.specs.Sweeps.{upto, row_curve, Pending, Sweep, NextPoint, left}
+use Rattle.verdict.specs.declared.Unfit.TheVariants.{Late}
 use Rattle.verdict.specs.declared.points.Point.{Point}
 use Rattle.verdict.proofs.Rowwise.{row_up, rows_sum}
 use Rattle.verdict.proofs.Totals.{nothing_at_zero}
@@ -78,7 +79,7 @@ module _ (rc : ℕ → ℕ → ℕ) (up : (i t u : ℕ) → t ≤ u → rc i t �
 
     module _ {β : ℕ → ℕ} {t count sum : ℕ} {ps : List Point} (far : Upto F end β t count) (s : Sweep rc n (t + 1) (t + 1) end ps sum) where
       -- nothing is left: all points below the end were taken
-      pub all_taken : ps ≡ [] → Walked β F end 0 count
+      pub all_taken : ps ≡ [] → Walked β F end (Ok count)
       all_taken none =
           let empty = subst (λ qs. Sweep rc n (t + 1) (t + 1) end qs sum) none s in
           let ended = sweep_from rc up n end {low = t + 1} {low' = end} {from = t + 1} {from' = t + 1} (omega arith) tt empty in
@@ -86,13 +87,10 @@ module _ (rc : ℕ → ℕ → ℕ) (up : (i t u : ℕ) → t ≤ u → rc i t �
           let flat = flat_between t (omega arith) ended in
           let e : t + 1 + (end - (t + 1)) ≡ end = omega arith in
           let level = rises_flat F (t + 1) (end - (t + 1)) (λ v more less. flat v more (omega arith)) in
-          inl (
-            refl,
-            record {
-              fit = λ u below up'. fits u below up' flat;
-              counted = far.counted ∙ sym level ∙ ap (rises F) e;
-            },
-          )
+          record {
+            fit = λ u below up'. fits u below up' flat;
+            counted = far.counted ∙ sym level ∙ ap (rises F) e;
+          }
         where
           fits : (u : ℕ) → u < end → Rises F u → ((v : ℕ) → t + 1 ≤ v → v < end → Rises F v → ⊥) → Fits β F u
           fits u below up' flat = ⊎_elim (λ lt. far.fit u lt up') (λ le. absurd (flat u le below up')) (cases_lt u (t + 1))
@@ -147,17 +145,14 @@ module _ (rc : ℕ → ℕ → ℕ) (up : (i t u : ℕ) → t ≤ u → rc i t �
         }
 
         -- it does not
-        pub fails_there : p.t < F p.t + β p.t → Walked β F end p.t (count + 1)
-        fails_there late = inr (
-          omega (arith, point_after_lem),
-          record {
-            below = point_inside;
-            rise = up_there;
-            fails = λ fits. omega (arith, fits (omega (arith, up_there)));
-            earlier = fit_before;
-            counted = counted_there;
-          },
-        )
+        pub fails_there : p.t < F p.t + β p.t → Walked β F end (Err (Late p.t (count + 1)))
+        fails_there late = record {
+          below = point_inside;
+          rise = up_there;
+          fails = λ fits. omega (arith, fits (omega (arith, up_there)));
+          earlier = fit_before;
+          counted = counted_there;
+        }
 
     -- at the start: t is 0, and no sum is above 0 there
     pub starts_upto : (β : ℕ → ℕ) → 0 < end → F 0 ≡ 0 → Upto F end β 0 0
@@ -201,7 +196,7 @@ module _ {K : Type 0} (m : K → Numbers) (p : ℕ) (os : List (Option K)) (laws
   walk_starts β some = starts_upto (row_curve m os) up (length os) end all_curves (rows_sum m os) β some (nothing_at_zero m p (present os) laws)
 
   module _ {β : ℕ → ℕ} {t count sum : ℕ} {ps : List Point} (far : Upto all_curves end β t count) (s : Sweep (row_curve m os) (length os) (t + 1) (t + 1) end ps sum) where
-    pub walk_ends : ps ≡ [] → Walked β all_curves end 0 count
+    pub walk_ends : ps ≡ [] → Walked β all_curves end (Ok count)
     walk_ends none = all_taken (row_curve m os) up (length os) end all_curves (rows_sum m os) far s none
 
     module _ (q : Point) (is : head ps ≡ Some q) (first : First point_before q ps) where
@@ -221,5 +216,5 @@ module _ {K : Type 0} (m : K → Numbers) (p : ℕ) (os : List (Option K)) (laws
         pub walk_goes_on : more + β q.t ≤ q.t → Upto all_curves end β q.t (count + 1)
         walk_goes_on fits = let x = head_is ps q is in goes_on (row_curve m os) up (length os) end all_curves (rows_sum m os) far s q x.0 x.1 first (omega (arith, sum_there))
 
-        pub walk_fails : q.t < more + β q.t → Walked β all_curves end q.t (count + 1)
+        pub walk_fails : q.t < more + β q.t → Walked β all_curves end (Err (Late q.t (count + 1)))
         walk_fails late = let x = head_is ps q is in fails_there (row_curve m os) up (length os) end all_curves (rows_sum m os) far s q x.0 x.1 first (omega (arith, sum_there))

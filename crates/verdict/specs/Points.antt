@@ -1,6 +1,8 @@
 -- The points of a demand function F: the places where it rises, and whether the air can carry them.
-use Rattle.std.specs.Prelude.{◌≡◌, ℕ, zero, suc, ◌+◌, ◌<◌, ◌≤◌, Bool, cond, ◌&&◌, ◌||◌, ◌⊎◌, ◌==◌, nat_lt}
+use Rattle.std.specs.Prelude.{◌≡◌, ℕ, zero, suc, ◌+◌, ◌<◌, ◌≤◌, Bool, cond, ◌&&◌, ◌||◌, ◌==◌, nat_lt, Ok, Err, Result}
 use Rattle.traffic.specs.Curves.{before, Rises}
+use Rattle.verdict.specs.declared.Unfit.{Unfit}
+use Rattle.verdict.specs.declared.Unfit.TheVariants.{OutsideLimits, Overloaded, Late}
 use Rattle.verdict.specs.declared.points.Point.{Point}
 
 -- the demand at t fits under the blocking term β, where there is any
@@ -25,9 +27,12 @@ pub record FirstFailing (β F : ℕ → ℕ) (h point count : ℕ) : Type 0 wher
   pub earlier : (t : ℕ) → t < point → Rises F t → Fits β F t
   pub counted : count ≡ rises F (point + 1)
 
--- what a walk over the points answers: the first that fails, or 0 where all fit, and the count
-abbrev pub Walked : (β F : ℕ → ℕ) → ℕ → ℕ → ℕ → Type 0
-Walked β F h point count = ((point ≡ 0) × AllFit β F h count) ⊎ ((0 < point) × FirstFailing β F h point count)
+-- what a walk over the points answers: how many there are where all fit, or the first that fails and the count up to it
+abbrev pub Walked : (β F : ℕ → ℕ) → ℕ → Result ℕ Unfit → Type 0
+Walked β F h (Ok count) = AllFit β F h count
+Walked β F h (Err (Late point count)) = FirstFailing β F h point count
+Walked β F h (Err OutsideLimits) = ⊥
+Walked β F h (Err Overloaded) = ⊥
 
 -- points are taken by t, and then by row
 abbrev pub point_before : Point → Point → Bool

@@ -53,9 +53,7 @@ impl<'a, K: Curve, S: Copy> Channels<'a, K, S> {
         ensures { Least K.Curve.numbers K.Curve.limits K.Curve.dated longest (size self.now) (rows_counted self.now) new result }
     {
         let widest = new.with_allowance(MOST);
-        if !self.with(widest).judgeable(longest) {
-            return Err(Unfit::OutsideLimits);
-        }
+        self.with(widest).checked(longest)?;
         self.with(widest.with_allowance(MOST)).judge(longest)?;
         Ok(self.halve(widest, longest))
     }

@@ -7,7 +7,9 @@ ghost use Rattle.verdict.specs.Members.{members, size};
 ghost use Rattle.verdict.specs.Stretches.{Stretched};
 
 pub mod channels;
+mod checked;
 mod least;
+mod members;
 mod points;
 mod sums;
 mod walk;
@@ -35,28 +37,20 @@ impl<'a, K: Curve, S: Copy> Channels<'a, K, S> {
         ensures judged { Judged K.Curve.numbers K.Curve.limits longest (size self.now) (members self.now) result }
         ensures exact { Exact K.Curve.numbers K.Curve.limits longest (size self.now) (members self.now) result }
     {
-        if !self.judgeable(longest) {
-            return Err(Unfit::OutsideLimits);
-        }
-        let (works, _) = self.loads(longest);
+        let checked = self.checked(longest)?;
+        let (works, _) = checked.loads();
         if works > FRAME {
             return Err(Unfit::Overloaded);
         }
-        let end = self.end_of_points(longest);
-        match self.walk(longest, end) {
-            (0, count) => Ok(count),
-            (point, count) => Err(Unfit::Late { point, count }),
-        }
+        checked.walk()
     }
 
     // The longest run of slots without a quiet one, by the straight line: refused where the works fill the frame.
     pub fn stretch(&self, longest: u32) -> Result<u64, Unfit>
         ensures { Stretched K.Curve.numbers K.Curve.limits longest (size self.now) (members self.now) result }
     {
-        if !self.judgeable(longest) {
-            return Err(Unfit::OutsideLimits);
-        }
-        let (works, bursts) = self.loads(longest);
+        let checked = self.checked(longest)?;
+        let (works, bursts) = checked.loads();
         if works >= FRAME {
             return Err(Unfit::Overloaded);
         }

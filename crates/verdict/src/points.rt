@@ -21,6 +21,6 @@ impl Ordered for Point {
     ghost transitive = { Prim.search rules };
 
     fn precedes(&self, other: &Point) -> bool {
-        self.t < other.t || self.t == other.t && self.row < other.row
+        (self.t, self.row) < (other.t, other.row)
     }
 }

@@ -1,62 +1,32 @@
 // What the channels ask for together.
-ghost use Rattle.std.specs.Prelude.{◌≡◌, ℕ, ◌+◌, ◌≤◌, Bool, true, false, Decides};
-ghost use Rattle.verdict.specs.Demand.{works, bursts, horizon};
-ghost use Rattle.verdict.specs.Judged.{Judgeable};
-ghost use Rattle.verdict.specs.Members.{members, size};
+ghost use Rattle.std.specs.Prelude.{◌≡◌, ℕ, ◌≤◌};
+ghost use Rattle.verdict.specs.Demand.{works, bursts, largest};
+ghost use Rattle.verdict.specs.Members.{members};
 
-use crate::channels::Channels;
-use traffic::{Curve, FRAME};
+use crate::checked::Checked;
+use traffic::Curve;
 
-impl<'a, K: Curve, S: Copy> Channels<'a, K, S> {
-    // Whether there is anything to judge: the longest packet, the table and each channel are within their limits.
-    pub(crate) fn judgeable(&self, longest: u32) -> bool
-        ensures { Decides result (Judgeable K.Curve.limits longest (size self.now) (members self.now)) }
-    {
-        if longest < 1 || longest > 255 || self.rows.len() > 32 {
-            return false;
-        }
-        for i in 0..self.len() {
-            if let Some(k) = self.at(i) {
-                if !k.within(longest) {
-                    return false;
-                }
-            }
-        }
-        true
-    }
-
+impl<'b, 'a, K: Curve, S: Copy> Checked<'b, 'a, K, S> {
     // The works and the bursts.
-    pub(crate) fn loads(&self, longest: u32) -> (u32, u32)
-        requires { Judgeable K.Curve.limits longest (size self.now) (members self.now) }
-        ensures works { result.0 ≡ works K.Curve.numbers (members self.now) }
-        ensures bursts { result.1 ≡ bursts K.Curve.numbers (members self.now) }
+    pub(crate) fn loads(&self) -> (u32, u32)
+        ensures works { result.0 ≡ works K.Curve.numbers (members self.now.channels.now) }
+        ensures bursts { result.1 ≡ bursts K.Curve.numbers (members self.now.channels.now) }
         ensures bursts_bound { result.1 ≤ 1496880 }
     {
         let mut works = 0;
         let mut bursts = 0;
-        for i in 0..self.len() {
-            if let Some(k) = self.at(i) {
-                works += k.work();
-                bursts += k.burst();
-            }
+        for k in self.channels.iter() {
+            works += k.work();
+            bursts += k.burst();
         }
         (works, bursts)
     }
 
-    // The largest allowance and a frame: all points that need a look lie below.
-    pub(crate) fn end_of_points(&self, longest: u32) -> u32
-        requires { Judgeable K.Curve.limits longest (size self.now) (members self.now) }
-        ensures { (result ≡ horizon K.Curve.numbers (members self.now)) × (result ≤ 45360) }
+    // The largest allowance, 0 where no channel counts.
+    pub(crate) fn largest_allowance(&self) -> u32
+        ensures { (result ≡ largest (λ k. (K.Curve.numbers k).allowance) (members self.now.channels.now)) × (result ≤ 40320) }
     {
-        let mut most = 0;
-        for i in 0..self.len() {
-            if let Some(k) = self.at(i) {
-                let allowance = k.allowance();
-                if most < allowance {
-                    most = allowance;
-                }
-            }
-        }
-        most + FRAME
+        let allowances = self.channels.iter().map(|k| k.allowance());
+        allowances.max().unwrap_or(0)
     }
 }

@@ -3,16 +3,16 @@ ghost use Rattle.std.specs.Prelude.{◌≡◌, ℕ, ◌+◌, ◌-◌, ◌*◌, �
 ghost use Rattle.std.specs.Option.{option_to_list};
 ghost use Rattle.std.specs.List.Sorted.{IsPermutation};
 ghost use Rattle.pool.specs.Contents.{contents, capacity};
-ghost use Rattle.verdict.specs.Demand.{curves, blocking};
-ghost use Rattle.verdict.specs.Judged.{Judgeable};
-ghost use Rattle.verdict.specs.Members.{members, places, size};
+ghost use Rattle.verdict.specs.Demand.{curves, horizon, blocking};
+ghost use Rattle.verdict.specs.Members.{members, places};
 ghost use Rattle.verdict.specs.Points.{Walked};
 ghost use Rattle.verdict.specs.Sweeps.{row_curve, Sweep, NextPoint, Replaced, Advanced};
 
-use crate::channels::Channels;
+use crate::checked::Checked;
 use crate::points::Point;
+use crate::{Unfit, Verdict};
 use pool::Pool;
-use traffic::Curve;
+use traffic::{Curve, FRAME};
 
 // Puts this point, if any, where there is room.
 fn add(points: &mut Pool<'_, Point>, next: Option<Point>)
@@ -35,27 +35,45 @@ fn replace(points: &mut Pool<'_, Point>, next: Option<Point>)
     add(points, next);
 }
 
-impl<'a, K: Curve, S: Copy> Channels<'a, K, S> {
+// The channels with the end of the walk: all points that need a look lie below it.
+#[derive(Drop)]
+struct Walk<'b, 'a, K: Curve, S> {
+    checked: Checked<'b, 'a, K, S>,
+    end: u32,
+    ghost horizon: { end ≡ horizon K.Curve.numbers (members checked.channels.now) },
+    ghost near: { end ≤ 45360 },
+}
+
+impl<'b, 'a, K: Curve, S: Copy> Checked<'b, 'a, K, S> {
     // The curve of a row at t, 0 where no channel counts.
-    fn curve_at(&self, row: usize, t: u32, longest: u32) -> u64
-        requires { Judgeable K.Curve.limits longest (size self.now) (members self.now) }
-        ensures value { result ≡ row_curve K.Curve.numbers (places self.now) row t }
+    fn curve_at(&self, row: usize, t: u32) -> u64
+        ensures value { result ≡ row_curve K.Curve.numbers (places self.now.channels.now) row t }
         ensures bound { result ≤ 45360 + 255 * t }
     {
-        match self.at(row) {
+        match self.channels.at(row) {
             Some(k) => k.curve(t),
             None => 0,
         }
     }
 
-    // The row's first point after t and below the end, if there is one; its curve is at `level` before it.
-    fn point_after(&self, row: usize, t: u32, level: u64, longest: u32, end: u32) -> Option<Point>
-        requires { Judgeable K.Curve.limits longest (size self.now) (members self.now) }
-        ensures { NextPoint (row_curve K.Curve.numbers (places self.now) row) row t level end result }
+    // The first point that fails and how many points there are up to it; or how many there are in all.
+    pub(crate) fn walk(self) -> Verdict
+        ensures { Walked (blocking self.entry.longest) (curves K.Curve.numbers (members self.entry.channels.now)) (horizon K.Curve.numbers (members self.entry.channels.now)) result }
     {
-        let k = self.at(row)?;
+        let end = self.largest_allowance() + FRAME;
+        let walk = Walk { checked: self, end };
+        walk.run()
+    }
+}
+
+impl<'b, 'a, K: Curve, S: Copy> Walk<'b, 'a, K, S> {
+    // The row's first point after t and below the end, if there is one; its curve is at `level` before it.
+    fn point_after(&self, row: usize, t: u32, level: u64) -> Option<Point>
+        ensures { NextPoint (row_curve K.Curve.numbers (places self.now.checked.channels.now) row) row t level self.now.end result }
+    {
+        let k = self.checked.channels.at(row)?;
         let next = k.next_rise(t)?;
-        if next >= u64::from(end) {
+        if next >= u64::from(self.end) {
             return None;
         }
         Some(Point {
@@ -65,72 +83,59 @@ impl<'a, K: Curve, S: Copy> Channels<'a, K, S> {
         })
     }
 
-    // The first point of each row.
-    fn fill(&self, points: &mut Pool<'_, Point>, longest: u32, end: u32)
-        requires judged { Judgeable K.Curve.limits longest (size self.now) (members self.now) }
+    // The first point of each row; a point names its row by number.
+    fn fill(&self, points: &mut Pool<'_, Point>)
         requires empty { points.old.count ≡ 0 }
-        requires some { 1 ≤ end }
         requires room { capacity points.old ≡ 33 }
-        ensures { Sweep (row_curve K.Curve.numbers (places self.now)) (length (places self.now)) 1 1 end (contents points.new) 0 }
+        ensures { Sweep (row_curve K.Curve.numbers (places self.now.checked.channels.now)) (length (places self.now.checked.channels.now)) 1 1 self.now.end (contents points.new) 0 }
     {
-        for i in 0..self.len() {
-            let first = self.point_after(i, 0, 0, longest, end);
+        for row in 0..self.checked.channels.len() {
+            let first = self.point_after(row, 0, 0);
             add(points, first);
         }
     }
 
     // Moves one row past its rise at t and answers the new sum; or none where no row rises at t any more.
-    fn advance(
-        &self,
-        points: &mut Pool<'_, Point>,
-        t: u32,
-        sum: u64,
-        longest: u32,
-        end: u32,
-    ) -> Option<u64>
-        requires judged { Judgeable K.Curve.limits longest (size self.now) (members self.now) }
-        requires near { end ≤ 45360 }
-        requires sweep { Sweep (row_curve K.Curve.numbers (places self.now)) (length (places self.now)) t (t + 1) end (contents points.old) sum }
-        ensures { Advanced (row_curve K.Curve.numbers (places self.now)) (length (places self.now)) t end (contents points.old) sum (contents points.new) result }
+    fn advance(&self, points: &mut Pool<'_, Point>, t: u32, sum: u64) -> Option<u64>
+        requires { Sweep (row_curve K.Curve.numbers (places self.now.checked.channels.now)) (length (places self.now.checked.channels.now)) t (t + 1) self.now.end (contents points.old) sum }
+        ensures { Advanced (row_curve K.Curve.numbers (places self.now.checked.channels.now)) (length (places self.now.checked.channels.now)) t self.now.end (contents points.old) sum (contents points.new) result }
     {
         let first = points.peek()?;
         if first.t != t {
             return None;
         }
-        let level = self.curve_at(first.row, t, longest);
-        let next = self.point_after(first.row, t, level, longest, end);
+        let level = self.checked.curve_at(first.row, t);
+        let next = self.point_after(first.row, t, level);
         replace(points, next);
         Some(sum + (level - first.level))
     }
 
-    // The first failing point below the end and how many points there are up to it; or 0 and how many there are in all.
-    pub(crate) fn walk(&self, longest: u32, end: u32) -> (u32, u32)
-        requires judged { Judgeable K.Curve.limits longest (size self.now) (members self.now) }
-        requires some { 1 ≤ end }
-        requires near { end ≤ 45360 }
-        ensures { Walked (blocking longest) (curves K.Curve.numbers (members self.now)) end result.0 result.1 }
+    // Takes the points in their order, up to the first that fails.
+    fn run(&self) -> Verdict
+        ensures { Walked (blocking self.now.checked.longest) (curves K.Curve.numbers (members self.now.checked.channels.now)) self.now.end result }
     {
+        let longest = self.checked.longest;
         let mut memory = [Point {
             t: 0,
             row: 0,
             level: 0,
         }; 33];
         let mut points = Pool::new(&mut memory);
-        self.fill(&mut points, longest, end);
+        self.fill(&mut points);
         let mut t = 0;
         let mut sum = 0;
         let mut count = 0;
         'points: loop {
             match points.peek() {
-                None => break 'points (0, count),
+                None => break 'points Ok(count),
                 Some(first) => t = first.t,
             }
-            'rows: while let Some(more) = self.advance(&mut points, t, sum, longest, end) {
+            'rows: while let Some(more) = self.advance(&mut points, t, sum) {
                 sum = more;
             }
             count += 1;
             if u64::from(t) < sum + u64::from(longest - 1) {
-                break 'points (t, count);
+                break 'points Err(Unfit::Late { point: t, count });
             }
         }
     }

@@ -1,11 +1,16 @@
-use Rattle.std.proofs.Common.{Ok, rules}
+use Rattle.std.proofs.Common.{subst, arith}
 use Rattle.verdict.specs.Judged.{Judged}
 use Rattle.verdict.specs.Members.{members, size}
-use Rattle.verdict.proofs.Exactness.{judged_exact}
+use Rattle.verdict.proofs.Exactness.{judged_walk, judged_exact}
 use Rattle.verdict.proofs.channels.Channels.judge.Goals as goal
 
-pub returns-in-0-default : goal.returns-in-0-default
-returns-in-0-default g c =
-    let self = c.args.self.now in
-    let judged : Judged g.K.Curve.numbers g.K.Curve.limits c.args.longest (size self) (members self) (Ok c.walk.result.1) = search rules in
-    record { judged = judged; exact = judged_exact _ _ g.met.K.Curve.shaped _ _ _ (Ok c.walk.result.1) judged }
+pub returns : goal.returns
+returns g c =
+    let m = g.K.Curve.numbers in
+    let limits = g.K.Curve.limits in
+    let checked = c.in_ok-checked.checked in
+    let v = c.walk.result in
+    let walked = judged_walk m limits checked.longest (size checked.channels.now) (members checked.channels.now) checked.judgeable (omega (arith, c.loads-works.ensures.works)) v c.walk.ensures in
+    let same = c.in_ok-checked.ensures.ok in
+    let judged = subst (λ p. Judged m limits p (size c.args.self.now) (members c.args.self.now) v) same.1 (subst (λ x. Judged m limits checked.longest (size x) (members x) v) same.0 walked) in
+    record { judged = judged; exact = judged_exact m limits g.met.K.Curve.shaped _ _ _ v judged }

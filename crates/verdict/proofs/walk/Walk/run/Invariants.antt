@@ -1,0 +1,22 @@
+use Rattle.std.proofs.Common.{◌+◌, ◌-◌, length}
+use Rattle.pool.specs.Contents.{contents}
+use Rattle.verdict.specs.Demand.{curves, blocking}
+use Rattle.verdict.specs.Members.{members, places}
+use Rattle.verdict.specs.Sweeps.{row_curve, Sweep, left}
+use Rattle.verdict.proofs.Swept.{Upto}
+use Rattle.verdict.proofs.walk.Walk.run.Given as goal
+
+abbrev pub invariant-points : goal.invariant-points
+invariant-points g l =
+    Upto (curves g.K.Curve.numbers (members l.self.checked.channels.now)) l.self.end (blocking l.self.checked.longest) l.t l.count
+    × Sweep (row_curve g.K.Curve.numbers (places l.self.checked.channels.now)) (length (places l.self.checked.channels.now)) (l.t + 1) (l.t + 1) l.self.end (contents l.points) l.sum
+
+abbrev pub decreases-points : goal.decreases-points
+decreases-points g l = l.self.end - l.t
+
+abbrev pub invariant-rows : goal.invariant-rows
+invariant-rows g l =
+    Sweep (row_curve g.K.Curve.numbers (places l.self.checked.channels.now)) (length (places l.self.checked.channels.now)) l.t (l.t + 1) l.self.end (contents l.points) l.sum
+
+abbrev pub decreases-rows : goal.decreases-rows
+decreases-rows g l = left l.self.end (contents l.points)
