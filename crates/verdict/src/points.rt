@@ -20,7 +20,8 @@ impl Ordered for Point {
 
     ghost transitive = { Prim.search rules };
 
+    // Not by comparing tuples: a verdict on the most points there can be takes a quarter more instructions so.
     fn precedes(&self, other: &Point) -> bool {
-        (self.t, self.row) < (other.t, other.row)
+        self.t < other.t || self.t == other.t && self.row < other.row
     }
 }
