@@ -10,7 +10,7 @@ use link::state::Packet;
 use plan::{Channel, Plan};
 use std::alloc::{AllocError, Global};
 
-impl<'a> Run<'a> {
+impl Run<'_> {
     // A line for each channel beside those joined before it, and then the channel is joined with its own allowance.
     fn ask_all(&mut self, channels: &[Channel]) -> Result<(), AllocError>
         ensures { OnOk result (Asking channels.now (model self.old.link) self.old.lines.items (model self.new.link) self.new.lines.items) }

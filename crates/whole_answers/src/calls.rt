@@ -16,20 +16,14 @@ use std::alloc::AllocError;
 fn print_end(carried: Option<Sent>, clock: u32, lines: &mut Vec<Line>) -> Result<(), AllocError>
     ensures { OnOk result (lines.new.items ≡ lines.old.items ++ map end_line (ending carried clock)) }
 {
-    if let Some(
-        Sent {
-            mat,
-            ended: true,
-            ..
-        },
-    ) = carried
-    {
+    if let Some(sent) = carried.filter(|sent| sent.ended) {
+        let mat = sent.mat;
         lines.push(Line::Ended { mat, clock })?;
     }
     Ok(())
 }
 
-impl<'a> Run<'a> {
+impl Run<'_> {
     // So many ticks; a refused one is the last.
     fn ticks(&mut self, count: u32) -> Result<(), AllocError>
         ensures { OnOk result (Part (Tick count) (model self.old.link) self.old.lines.items (model self.new.link) self.new.lines.items) }

@@ -9,7 +9,7 @@ use lines::Line;
 use plan::Channel;
 use std::alloc::AllocError;
 
-impl<'a> Run<'a> {
+impl Run<'_> {
     // Joins the channels in turn, a line each.
     pub(crate) fn join_all(&mut self, channels: &[Channel]) -> Result<(), AllocError>
         ensures { OnOk result (Part (λ cs ds. InTurn Join cs channels.now ds) (model self.old.link) self.old.lines.items (model self.new.link) self.new.lines.items) }
