@@ -1,5 +1,5 @@
 -- What the verdict can say is fixed by the channels: one refusal or a grant, one least allowance, one stretch.
-use Rattle.std.proofs.Common.{◌≡◌, ℕ, ◌+◌, ◌-◌, ◌<◌, ◌≤◌, Bool, true, ◌⊎◌, List, [], ◌∷◌, ◌++◌, Ok, Err, Result, is_ok, sym, refl, ap, ◌∙◌, subst, inl, inr, arith}
+use Rattle.std.proofs.Common.{◌≡◌, ℕ, ◌+◌, ◌-◌, ◌<◌, ◌≤◌, Bool, true, ◌⊎◌, List, [], ◌∷◌, ◌++◌, Ok, Err, Result, sym, refl, ap, ◌∙◌, subst, inl, inr, arith}
 use Rattle.std.proofs.lemmas.Bool.{cases_order, false≢true}
 use Rattle.traffic.specs.Curves.{Numbers}
 use Rattle.traffic.specs.Laws.{CurveLaws}
@@ -49,11 +49,8 @@ module _ {K : Type 0} (m : K → Numbers) (limits : K → ℕ → Bool) (p rows 
 
   module _ (shaped : (k : K) (q : ℕ) → 1 ≤ q → q ≤ 255 → limits k q ≡ true → CurveLaws q (m k)) (passes : Passes m (blocking p) ks) where
     pub granted_only : (v : Result ℕ Unfit) → Judged m limits p rows ks v → (count : ℕ) × (v ≡ Ok count)
-    granted_only v judged = is v ((judged_exact m limits shaped p rows ks v judged).1 (j, passes))
-      where
-        is : (v : Result ℕ Unfit) → is_ok v ≡ true → (count : ℕ) × (v ≡ Ok count)
-        is (Ok count) _ = (count, refl)
-        is (Err unfit) e = absurd (false≢true e)
+    granted_only (Ok count) judged = (count, refl)
+    granted_only (Err unfit) judged = absurd (false≢true ((judged_exact m limits shaped p rows ks (Err unfit) judged).1 (j, passes)))
 
     -- channels that pass are granted, with the count of all points below the horizon
     pub grant : (count : ℕ) × Judged m limits p rows ks (Ok count)
