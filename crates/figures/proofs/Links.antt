@@ -1,7 +1,8 @@
 -- From one computed test to what every link with these counted channels answers.
-use Rattle.std.proofs.Common.{◌≡◌, ℕ, ◌+◌, ◌-◌, ◌≤◌, Bool, true, false, ◌&&◌, eqb, ltb, leb, List, [], ◌∷◌, ◌++◌, length, Some, Ok, Err, Option, Result, refl, ap, ◌∙◌, subst, subst₂, arith}
+use Rattle.std.proofs.Common.{◌≡◌, ℕ, ◌+◌, ◌-◌, ◌<◌, ◌≤◌, Bool, true, false, ◌&&◌, eqb, ltb, leb, List, [], ◌∷◌, ◌++◌, length, Some, Ok, Err, Option, Result, refl, ap, ◌∙◌, subst, subst₂, arith}
 use Rattle.std.proofs.ByRecursion.{All-weaker}
-use Rattle.std.proofs.lemmas.Bool.{and_parts, leb-true, ltb-true, eqb-true, cond-false, and_right}
+use Rattle.std.proofs.lemmas.Bool.Decides.{nat_tests}
+use Rattle.std.proofs.lemmas.Bool.{and_parts, ltb-true, cond-false, and_right}
 use Rattle.traffic.specs.Laws.{CurveLaws}
 use Rattle.verdict.specs.Demand.{works, bursts, curves, horizon, blocking}
 use Rattle.verdict.specs.Judged.{Judgeable, Judged}
@@ -32,8 +33,7 @@ in_range p (k ∷ ks) = limits k p && in_range p ks
 
 judgeable : (p rows : ℕ) → rows ≤ 32 → (ks : List Kind) → in_range p ks ≡ true → Judgeable limits p rows ks
 judgeable p rows few [] h =
-    let a = and_parts (leb 1 p) (leb p 255) h in
-    record { least = leb-true 1 p a.0; most = leb-true p 255 a.1; few = few; within = tt }
+    record { least = grind (arith, nat_tests); most = grind (arith, nat_tests); few = few; within = tt }
 judgeable p rows few (k ∷ ks) h =
     let a = and_parts (limits k p) (in_range p ks) h in
     let j = judgeable p rows few ks a.1 in
@@ -87,10 +87,8 @@ module _ (p : ℕ) (ks : List Kind) (k : Kind) where
 
   pub refusing : (rows : ℕ) → rows ≤ 32 → (point count : ℕ) → late_test point count ≡ true → Judged numbers limits p rows judged (Err (Fails point count))
   refusing rows few point count h =
-      let a = and_parts (in_range p judged) _ h in
-      let b = and_parts (leb (works numbers judged) 5040) _ a.1 in
-      let c = and_parts (failing (blocking p) demand (horizon numbers judged) point) _ b.1 in
-      (judgeable p rows few judged a.0, leb-true _ 5040 b.0, fails_tested (blocking p) demand (horizon numbers judged) point count c.0 (eqb-true count _ c.1))
+      let (range, light, fails, counted) : (in_range p judged ≡ true) × (works numbers judged ≤ 5040) × (failing (blocking p) demand (horizon numbers judged) point ≡ true) × (count ≡ rises demand (point + 1)) = grind (arith, nat_tests) in
+      (judgeable p rows few judged range, light, fails_tested (blocking p) demand (horizon numbers judged) point count fails counted)
 
   pub late_on : (point count : ℕ) → late_test point count ≡ true → RefusedOn p ks k (Late point count)
   late_on point count h =
@@ -126,15 +124,14 @@ module _ (p : ℕ) (ks : List Kind) (k : Kind) where
 
   pub least_on : (n d f : ℕ) → least_test n d f ≡ true → LeastOn p ks k d f
   least_on n d f h m c r leasts =
-      let a = and_parts (in_range p (ks ++ wide ∷ [])) _ h in
-      let b = and_parts (ltb (numbers wide).longest d) _ a.1 in
-      let e = and_parts (leb d 40320) _ b.1 in
-      let g = and_parts (passing numbers p n (beside_dated d)) _ e.1 in
-      let above = ltb-true (numbers wide).longest d b.0 in
-      let most = leb-true d 40320 e.0 in
-      let j = judgeable p (length m.rows) c.few (ks ++ wide ∷ []) a.0 in
-      let passes = passes_judgeable p (length m.rows) n (beside_dated d) (beside_judgeable numbers limits dated lawful p (length m.rows) ks wide j d (omega arith) most) g.0 in
-      let first = fails_tested (blocking p) (curves numbers (beside_dated (d - 1))) (horizon numbers (beside_dated (d - 1))) f _ g.1 refl in
+      let range : in_range p (ks ++ wide ∷ []) ≡ true = grind (arith, nat_tests) in
+      let above : (numbers wide).longest < d = grind (arith, nat_tests) in
+      let most : d ≤ 40320 = grind (arith, nat_tests) in
+      let passing_there : passing numbers p n (beside_dated d) ≡ true = grind (arith, nat_tests) in
+      let fails : failing (blocking p) (curves numbers (beside_dated (d - 1))) (horizon numbers (beside_dated (d - 1))) f ≡ true = grind (arith, nat_tests) in
+      let j = judgeable p (length m.rows) c.few (ks ++ wide ∷ []) range in
+      let passes = passes_judgeable p (length m.rows) n (beside_dated d) (beside_judgeable numbers limits dated lawful p (length m.rows) ks wide j d (omega arith) most) passing_there in
+      let first = fails_tested (blocking p) (curves numbers (beside_dated (d - 1))) (horizon numbers (beside_dated (d - 1))) f _ fails refl in
       let is = least_is numbers limits dated lawful p (length m.rows) ks k j d f _ above most passes first in
       let (s, least, told) = subst (λ (x : Bool). LeastUnless numbers limits dated x m k r) c.unshut leasts in
       let there = subst₂ (λ (q : ℕ) (cs : List Kind). Least numbers limits dated q (length m.rows) cs k s) c.longest c.counted least in

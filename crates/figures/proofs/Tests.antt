@@ -1,7 +1,7 @@
 -- Tests that compute: a look at the first few t, and one at the line that the curves stay under, decide every t.
 use Rattle.std.proofs.Common.{◌≡◌, ℕ, zero, suc, ◌+◌, ◌-◌, ◌*◌, ◌<◌, ◌≤◌, Bool, true, ◌&&◌, ◌||◌, eqb, ltb, leb, List, [], ◌∷◌, Decides, refl, subst, inl, inr, add-mul, mul-le-mul_left, mul-add, arith}
 use Rattle.std.specs.List.{AllByRecursion}
-use Rattle.std.proofs.lemmas.Bool.{and_parts, or_cases, leb-true, ltb-true, eqb-true, cases_lt}
+use Rattle.std.proofs.lemmas.Bool.{cases_lt}
 use Rattle.std.proofs.lemmas.Bool.Decides.{nat_tests, Decides-below_and}
 use Rattle.traffic.specs.Curves.{Numbers, before}
 use Rattle.traffic.specs.Laws.{CurveLaws}
@@ -20,7 +20,7 @@ module _ (β F : ℕ → ℕ) where
   fitting (suc n) = fits n && fitting n
 
   fits_decides : (t : ℕ) → Decides (fits t) (Fits β F t)
-  fits_decides t = (λ e some. elim (or_cases (eqb (F t) 0) (leb (F t + β t) t) e) [ inl z ↦ omega (arith, eqb-true (F t) 0 z) | inr l ↦ leb-true (F t + β t) t l ], λ f. grind (arith, nat_tests))
+  fits_decides t = grind (arith, nat_tests)
 
   fits_tested : (n : ℕ) → fitting n ≡ true → (t : ℕ) → t < n → Fits β F t
   fits_tested n = (Decides-below_and fits (Fits β F) fitting fits_decides refl (λ _. refl) n).0
@@ -31,16 +31,11 @@ module _ (β F : ℕ → ℕ) where
 
   pub fails_tested : (h point count : ℕ) → failing h point ≡ true → count ≡ rises F (point + 1) → FirstFailing β F h point count
   fails_tested h point count tested counted =
-      let a = and_parts (ltb point h) _ tested in
-      let b = and_parts (ltb (before F point) (F point)) _ a.1 in
-      let c = and_parts (ltb point (F point + β point)) _ b.1 in
-      let rise = ltb-true (before F point) (F point) b.0 in
-      let over = ltb-true point (F point + β point) c.0 in
       record {
-        below = ltb-true point h a.0;
-        rise = rise;
-        fails = λ f. omega (arith, f (omega arith));
-        earlier = λ t l _. fits_tested point c.1 t l;
+        below = grind (arith, nat_tests);
+        rise = grind (arith, nat_tests);
+        fails = λ f. grind (arith, nat_tests);
+        earlier = λ t l _. fits_tested point (grind (arith, nat_tests)) t l;
         counted = counted;
       }
 
@@ -66,16 +61,13 @@ module _ {K : Type 0} (m : K → Numbers) (p : ℕ) where
 
   pub passes_tested : (n : ℕ) (ks : List K) → AllByRecursion (λ k. CurveLaws p (m k)) ks → passing n ks ≡ true → Passes m (blocking p) ks
   passes_tested n ks laws tested =
-      let a = and_parts (leb (works m ks) 5040) _ tested in
-      let b = and_parts (leb (largest (λ k. (m k).allowance) ks) n) _ a.1 in
-      let c = and_parts (leb (5040 * (bursts m ks + (p - 1)) + n * works m ks) (5040 * n + spared ks)) _ b.1 in
-      let few = leb-true (works m ks) 5040 a.0 in
-      let past = leb-true (largest (λ k. (m k).allowance) ks) n b.0 in
-      let line = leb-true (5040 * (bursts m ks + (p - 1)) + n * works m ks) (5040 * n + spared ks) c.0 in
+      let few : works m ks ≤ 5040 = grind (arith, nat_tests) in
+      let past : largest (λ k. (m k).allowance) ks ≤ n = grind (arith, nat_tests) in
+      let line : 5040 * (bursts m ks + (p - 1)) + n * works m ks ≤ 5040 * n + spared ks = grind (arith, nat_tests) in
       record {
         works_fit = few;
         demand_fits = λ t some. elim (cases_lt t n) [
-          | inl l ↦ fits_tested (blocking p) (curves m ks) n c.1 t l some
+          | inl l ↦ fits_tested (blocking p) (curves m ks) n (grind (arith, nat_tests)) t l some
           | inr g ↦
               let s : ℕ = t - n in
               let at : n + s ≡ t = omega arith in
