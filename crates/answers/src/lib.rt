@@ -41,7 +41,7 @@ pub fn least(heap: Global, text: &[u8]) -> Result<Vec<Line>, AllocError>
 fn opens(longest: u32) -> bool
     ensures { result ≡ opens longest }
 {
-    1 <= longest && longest <= 255
+    (1..=255).contains(&longest)
 }
 
 // The lines of a plan: how the link opens and, where it opens, a line that this shows of each channel, decided with those granted before.

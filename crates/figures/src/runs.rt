@@ -2,14 +2,11 @@
 ghost use Rattle.std.specs.Prelude.{◌≡◌, Ok};
 
 use link::state::{Link, Packet};
-use refusals::Refusal;
+use plan::Kind;
+use refusals::{Refusal, answered};
 use std::io;
 use traffic::Row;
-use traffic::bucket::Bucket;
-use traffic::mixture::{Mixture, MixtureState};
-use traffic::spaced::Spaced;
-
-type Kind = Mixture<Spaced, Bucket>;
+use traffic::mixture::MixtureState;
 
 type State = MixtureState<Option<u32>, u64>;
 
@@ -31,11 +28,6 @@ pub fn least_alone() -> Result<(u32, u32), Refusal>
     link.least(Kind::spaced(10, 2, 0))
 }
 
-// The number that a join answers, 0 where it is granted.
-fn number(joined: Result<u32, Refusal>) -> u32 {
-    joined.err().map_or(0, |refusal| refusal.number())
-}
-
 // Three channels join, each at its least allowance; then the stretch.
 pub fn run(rt: &HostRuntime) -> io::Result<()> {
     if let Ok((least, point)) = least_alone() {
@@ -44,10 +36,10 @@ pub fn run(rt: &HostRuntime) -> io::Result<()> {
     let mut rows = [row(); 4];
     let mut places = [Packet::default(); 8];
     let mut link = Link::open(0, 4, &mut rows, &mut places);
-    let first = number(link.join(1, Kind::spaced(10, 2, 5)));
-    let second = number(link.join(2, Kind::spaced(8, 4, 9)));
+    let first = answered(link.join(1, Kind::spaced(10, 2, 5)));
+    let second = answered(link.join(2, Kind::spaced(8, 4, 9)));
     let last = link.join(3, Kind::spaced(12, 3, 18));
-    let third = number(last);
+    let third = answered(last);
     let count = last.unwrap_or(0);
     println!(rt; "holds {first}, {second}, {third}; count {count}")?;
     match link.stretch() {

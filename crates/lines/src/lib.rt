@@ -2,7 +2,6 @@
 #![tactic(auto)]
 
 ghost use Rattle.std.specs.Prelude.{◌≡◌, Some, IfOk};
-ghost use Rattle.refusals.specs.Refusals.{answered};
 ghost use Rattle.lines.specs.Lines.{point_and_count, least_values, printed, channel_line_lem, least_line_lem};
 ghost use Rattle.lines.specs.Texts.{Refused};
 
@@ -10,7 +9,7 @@ pub mod cases;
 pub mod replies;
 
 use plan::{Channel, Fault, Kind};
-use refusals::Refusal;
+use refusals::{Refusal, answered};
 use std::alloc::{AllocError, Global};
 use std::fmt;
 
@@ -101,13 +100,6 @@ pub fn refused(heap: Global, fault: Fault) -> Result<Vec<Line>, AllocError>
     }
 }
 
-// The number of an answer: 0 where it is granted.
-fn number<T: Copy>(answer: Result<T, Refusal>) -> u32
-    ensures { result ≡ answered answer }
-{
-    answer.map_or_else(|refusal| refusal.number(), |_| 0)
-}
-
 // The failing point (0 if none fails) and how many points were taken.
 fn point_and_count(answer: Result<u32, Refusal>) -> (u32, u32)
     ensures { result ≡ point_and_count answer }
@@ -131,20 +123,20 @@ impl fmt::Display for Line {
             Line::Opened { shut } => write!(f, "P {}", u32::from(shut)),
             Line::Spaced { mat, answer } => {
                 let (point, count) = point_and_count(answer);
-                write!(f, "S {mat} {} {point} {count}", number(answer))
+                write!(f, "S {mat} {} {point} {count}", answered(answer))
             }
             Line::Bucket { mat, answer } => {
                 let (point, count) = point_and_count(answer);
-                write!(f, "B {mat} {} {point} {count}", number(answer))
+                write!(f, "B {mat} {} {point} {count}", answered(answer))
             }
-            Line::Offered { mat, answer } => write!(f, "O {mat} {}", number(answer)),
-            Line::Bulk { answer } => write!(f, "K {}", number(answer)),
-            Line::Released { mat, answer } => write!(f, "R {mat} {}", number(answer)),
+            Line::Offered { mat, answer } => write!(f, "O {mat} {}", answered(answer)),
+            Line::Bulk { answer } => write!(f, "K {}", answered(answer)),
+            Line::Released { mat, answer } => write!(f, "R {mat} {}", answered(answer)),
             Line::Ended { mat, clock } => write!(f, "D {mat} {clock}"),
             Line::Stopped { refusal } => write!(f, "T {}", refusal.number()),
             Line::Least { mat, answer } => {
                 let (allowance, point) = least_values(answer);
-                write!(f, "L {mat} {} {allowance} {point}", number(answer))
+                write!(f, "L {mat} {} {allowance} {point}", answered(answer))
             }
         }
     }

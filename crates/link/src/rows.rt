@@ -99,7 +99,8 @@ impl<'a, K: Traffic> Link<'a, K> {
         self.table.held_of(mat, serial, self.rows.len())
     }
 
-    // A copy of the row at a place that a search found.
+    // A copy of the row at a place that a search found. A place is a plain number here and below: it indexes two arrays, of which one is lent,
+    // so a type for it could carry but half of what it must keep.
     pub(crate) fn at(&self, i: usize) -> (Record, Row<K, K::State>)
         requires { (i < 32) × (i < length self.now.rows.now) }
         ensures { slice_get (model self.now).rows i ≡ Some (record { entry = result.0; row = result.1 }) }

@@ -2,14 +2,6 @@
 use refusals::Refusal;
 use std::fmt;
 
-// The number of an answer, 0 if it was granted.
-pub fn number<T: Drop>(answer: Result<T, Refusal>) -> u32 {
-    match answer {
-        Ok(_) => 0,
-        Err(refusal) => refusal.number(),
-    }
-}
-
 // What joining a channel answers: the number, the point and the count.
 #[derive(Clone, Copy)]
 pub struct Told(pub Result<u32, Refusal>);

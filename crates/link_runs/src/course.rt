@@ -1,6 +1,7 @@
 // A release: the row counts until the first quiet slot, and only then another mat gets its share.
-use crate::answers::{Told, number};
+use crate::answers::Told;
 use link::state::{Link, Mat, Packet};
+use refusals::answered;
 use std::io;
 use traffic::spaced::Spaced;
 use traffic::{Row, Traffic};
@@ -55,15 +56,15 @@ fn with_bulk(rt: &HostRuntime, bytes: u32) -> io::Result<()> {
     let mut link = Link::open(0, 5, &mut rows, &mut places);
     joined(rt, &mut link, 1, spaced(20, 5, 9))?;
     joined(rt, &mut link, 2, spaced(20, 5, 14))?;
-    let first = number(link.offer(1, 0, 160));
-    let second = number(link.offer(2, 0, 160));
+    let first = answered(link.offer(1, 0, 160));
+    let second = answered(link.offer(2, 0, 160));
     println!(rt; "offers: {first}, {second}")?;
     ticks(rt, &mut link, 5)?;
-    let released = number(link.release(1));
+    let released = answered(link.release(1));
     println!(rt; "release of 1: {released}")?;
     joined(rt, &mut link, 3, spaced(20, 5, 9))?;
     ticks(rt, &mut link, 5)?;
-    let bulk = number(link.bulk(0, bytes));
+    let bulk = answered(link.bulk(0, bytes));
     println!(rt; "bulk: {bulk}")?;
     ticks(rt, &mut link, 1)?;
     joined(rt, &mut link, 3, spaced(20, 5, 9))?;

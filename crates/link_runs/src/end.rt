@@ -1,7 +1,7 @@
 // The end of the clock: 2,000,000,000 ticks on an idle link, and one more.
-use crate::answers::number;
 use crate::course::spaced;
 use link::state::{Link, Packet};
+use refusals::answered;
 use std::io;
 use traffic::Row;
 
@@ -15,7 +15,7 @@ pub fn run(rt: &HostRuntime) -> io::Result<()> {
     for _ in 0..2_000_000_000u32 {
         let _ = link.tick();
     }
-    let last = number(link.tick());
+    let last = answered(link.tick());
     let clock = link.clock();
     println!(rt; "tick at {clock}: {last}")
 }

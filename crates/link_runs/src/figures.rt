@@ -2,6 +2,7 @@
 use crate::answers::Told;
 use crate::course::spaced;
 use link::state::{Link, Mat, Packet};
+use refusals::answered;
 use std::io;
 use traffic::Row;
 use traffic::spaced::Spaced;
@@ -17,12 +18,11 @@ fn shortest(
     match link.least(spaced(period, longest, 0)) {
         Ok((least, forbidden)) => {
             let shorter = Told(link.join(mat, spaced(period, longest, least.wrapping_sub(1))));
-            let (number, count) = match link.join(mat, spaced(period, longest, least)) {
-                Ok(count) => (0, count),
-                Err(refusal) => (refusal.number(), 0),
-            };
+            let joined = link.join(mat, spaced(period, longest, least));
             println!(rt;
-                "least {least} and {forbidden}; one less {shorter}; least {number}, count {count}"
+                "least {least} and {forbidden}; one less {shorter}; least {}, count {}",
+                answered(joined),
+                joined.unwrap_or(0)
             )
         }
         Err(refusal) => println!(rt; "least refused {}", refusal.number()),

@@ -1,20 +1,16 @@
 // Holds that no held row has: of another link, stale, of a released row.
-use crate::answers::number;
 use crate::course::spaced;
 use link::state::{Hold, Link, Mat, Packet};
-use refusals::Refusal;
+use refusals::{Refusal, answered};
 use std::io;
 use traffic::Row;
 use traffic::spaced::Spaced;
 
-// Confirms the hold; where it is refused, cancels the hold that came back. The two numbers.
-fn settle(link: &mut Link<'_, Spaced>, hold: Hold) -> (u32, u32) {
+// Confirms the hold; where it is refused, cancels the hold that came back. The two answers.
+fn settle(link: &mut Link<'_, Spaced>, hold: Hold) -> (Result<(), Refusal>, Result<(), Refusal>) {
     match link.confirm(hold) {
-        Ok(()) => (0, 0),
-        Err((refusal, back)) => {
-            let cancel = number(link.cancel(back));
-            (refusal.number(), cancel)
-        }
+        Ok(()) => (Ok(()), Ok(())),
+        Err((refusal, back)) => (Err(refusal), link.cancel(back)),
     }
 }
 
@@ -32,7 +28,7 @@ fn foreign(
     match held(there, 1) {
         Ok(hold) => {
             let (confirm, cancel) = settle(here, hold);
-            println!(rt; "foreign: {confirm}, {cancel}")
+            println!(rt; "foreign: {}, {}", answered(confirm), answered(cancel))
         }
         Err(refusal) => println!(rt; "foreign: no hold, {}", refusal.number()),
     }
@@ -42,13 +38,18 @@ fn foreign(
 fn released(rt: &HostRuntime, link: &mut Link<'_, Spaced>) -> io::Result<()> {
     match held(link, 2) {
         Ok(hold) => {
-            let release = number(link.release(2));
-            let (kept, _) = match held(link, 2) {
-                Ok(next) => settle(link, next),
-                Err(refusal) => (refusal.number(), 0),
+            let release = answered(link.release(2));
+            let kept = match held(link, 2) {
+                Ok(next) => settle(link, next).0,
+                Err(refusal) => Err(refusal),
             };
             let (confirm, cancel) = settle(link, hold);
-            println!(rt; "released: {release}, held again {kept}, stale {confirm}, {cancel}")
+            println!(rt;
+                "released: {release}, held again {}, stale {}, {}",
+                answered(kept),
+                answered(confirm),
+                answered(cancel)
+            )
         }
         Err(refusal) => println!(rt; "released: no hold, {}", refusal.number()),
     }

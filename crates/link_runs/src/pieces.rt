@@ -1,7 +1,7 @@
 // The bytes that ticks carried, of the mats' memory and of the files', and why none are handed out.
-use crate::answers::number;
 use crate::course::spaced;
 use link::state::{Link, Packet};
+use refusals::answered;
 use std::io;
 use traffic::Row;
 use traffic::spaced::Spaced;
@@ -59,19 +59,19 @@ pub fn run(rt: &HostRuntime) -> io::Result<()> {
     }; 2];
     let mut places = [Packet::default(); 4];
     let mut link = Link::open(0, 5, &mut rows, &mut places);
-    let joined = number(link.join(1, spaced(20, 5, 9)));
+    let joined = answered(link.join(1, spaced(20, 5, 9)));
     show(rt, &link, &mats, &files)?;
-    let read = number(link.offer(1, 3, 70));
+    let read = answered(link.offer(1, 3, 70));
     println!(rt; "joined {joined}, offered {read}")?;
     carry(rt, &mut link, 2, &mats, &files)?;
     show(rt, &link, shorter(&mats), &files)?;
-    let file = number(link.bulk(1, 40));
+    let file = answered(link.bulk(1, 40));
     println!(rt; "bulk {file}")?;
     carry(rt, &mut link, 4, &mats, &files)?;
     for _ in 0..15 {
         let _ = link.tick();
     }
-    let far = number(link.offer(1, 4_294_967_295, 32));
+    let far = answered(link.offer(1, 4_294_967_295, 32));
     println!(rt; "offered {far}")?;
     carry(rt, &mut link, 1, &mats, &files)
 }

@@ -141,7 +141,7 @@ fn take_channels(rt: &HostRuntime, longest: u32, channels: &[Channel]) -> io::Re
 // The picture of a plan; a link that would open shut has none.
 fn print_picture(rt: &HostRuntime, plan: &Plan) -> io::Result<()> {
     let longest = plan.longest;
-    if longest < 1 || longest > 255 {
+    if !(1..=255).contains(&longest) {
         return println!(rt; "P 1");
     }
     let blocking = longest - 1;

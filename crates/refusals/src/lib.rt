@@ -2,7 +2,7 @@
 #![tactic(auto)]
 
 ghost use Rattle.std.specs.Prelude.{◌≡◌};
-ghost use Rattle.refusals.specs.Refusals.{number, values, refusal_of};
+ghost use Rattle.refusals.specs.Refusals.{number, values, refusal_of, answered};
 
 use verdict::Unfit;
 
@@ -74,5 +74,15 @@ impl From<Unfit> for Refusal {
             Unfit::Overloaded => Refusal::Overloaded,
             Unfit::Late { point, count } => Refusal::Late { point, count },
         }
+    }
+}
+
+// The number that a call answers: 0 where it is granted.
+pub fn answered<T: Drop>(answer: Result<T, Refusal>) -> u32
+    ensures { result ≡ answered answer }
+{
+    match answer {
+        Ok(_) => 0,
+        Err(refusal) => refusal.number(),
     }
 }

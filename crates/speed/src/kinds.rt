@@ -5,6 +5,7 @@ use traffic::bucket::Bucket;
 use traffic::mixture::{Mixture, MixtureState};
 use traffic::spaced::Spaced;
 
+// the kinds of a plan, which this crate does not read
 pub type Kind = Mixture<Spaced, Bucket>;
 
 pub type Lent = Row<Kind, MixtureState<Option<u32>, u64>>;

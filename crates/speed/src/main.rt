@@ -16,6 +16,7 @@ fn small(rt: &HostRuntime) -> io::Result<()> {
     sending::busy(rt, 312)
 }
 
+// A match, since a table of names would hold function pointers.
 fn run(rt: &HostRuntime, case: &str) -> io::Result<()> {
     match case {
         "refused" => judging::refused(rt, 1_000),

@@ -10,6 +10,7 @@ use traffic::spaced::Spaced;
 use verdict::channels::Channels;
 use verdict::{Unfit, Verdict};
 
+// the kinds of a plan, which this crate does not read
 type Kind = Mixture<Spaced, Bucket>;
 
 fn row(period: u32, longest: u32, allowance: u32) -> Row<Kind, ()> {
