@@ -1,5 +1,6 @@
 -- The places of a table with marks, one by one.
-use Rattle.std.proofs.Common.{◌≡◌, ℕ, zero, suc, ◌+◌, ◌<◌, Bool, true, false, cond, List, [], ◌∷◌, ◌++◌, length, get_or, take, replicate, Some, None, Option, refl, ap, ◌∙◌, arith, length-append, sym, subst, inr, ◌⊎◌}
+use Rattle.std.proofs.Common.{◌≡◌, ℕ, zero, suc, ◌+◌, ◌<◌, ◌≤◌, Bool, true, false, cond, List, [], ◌∷◌, ◌++◌, length, get_or, take, replicate, Some, None, Option, refl, ap, ◌∙◌, arith, length-append, sym, subst, inr, ◌⊎◌}
+use Rattle.std.specs.Bool.{then_some}
 use Rattle.std.specs.Iterator.{YieldsFirst, item_count, MakesProgress}
 use Rattle.std.proofs.Math.ListN.{get_or-eq_default}
 use Rattle.std.proofs.lemmas.List.{take_more}
@@ -16,20 +17,21 @@ module _ {K S : Type 0} where
   pub length-places : (rs : List (Row K S)) (bs : List Bool) (o : Option K) → length (marked rs bs ++ o ∷ []) ≡ length rs + 1
   length-places rs bs o = simp length-append (omega (arith, length_marked rs bs))
 
-  -- where the mark is false or missing, none counts
-  pub uncounted_at : (rs : List (Row K S)) (bs : List Bool) (i : ℕ) (o : Option K) → i < length rs → get_or bs i false ≡ false → get_or (marked rs bs ++ o ∷ []) i None ≡ None
-  uncounted_at [] bs i o inside mark = absurd (omega arith)
-  uncounted_at (r ∷ rs) [] zero o inside mark = refl
-  uncounted_at (r ∷ rs) [] (suc i) o inside mark = uncounted_at rs [] i o (omega arith) refl
-  uncounted_at (r ∷ rs) (b ∷ bs) zero o inside mark = ap (λ y. cond y (Some r.kind) None) mark
-  uncounted_at (r ∷ rs) (b ∷ bs) (suc i) o inside mark = uncounted_at rs bs i o (omega arith) mark
+  -- a row's channel, where its mark is true
+  pub marked_at : (rs : List (Row K S)) (bs : List Bool) (i : ℕ) (o : Option K) (r : Row K S) (mark : Bool) → i < length rs → i < length bs → r ≡ get_or rs i r → mark ≡ get_or bs i mark → get_or (marked rs bs ++ o ∷ []) i None ≡ then_some mark r.kind
+  marked_at [] bs i o r mark inside marks row is = absurd (omega arith)
+  marked_at (x ∷ rs) [] i o r mark inside marks row is = absurd (omega arith)
+  marked_at (x ∷ rs) (true ∷ bs) zero o r mark inside marks row is = rw (is, row) refl
+  marked_at (x ∷ rs) (false ∷ bs) zero o r mark inside marks row is = rw is refl
+  marked_at (x ∷ rs) (b ∷ bs) (suc i) o r mark inside marks row is = marked_at rs bs i o r mark (omega arith) (omega arith) row is
 
-  -- where it is true, the row's channel does
-  pub counted_at : (rs : List (Row K S)) (bs : List Bool) (i : ℕ) (o : Option K) (r : Row K S) → i < length rs → i < length bs → get_or bs i false ≡ true → get_or (marked rs bs ++ o ∷ []) i None ≡ Some (get_or rs i r).kind
-  counted_at [] bs i o r inside marks mark = absurd (omega arith)
-  counted_at (x ∷ rs) [] i o r inside marks mark = absurd (omega arith)
-  counted_at (x ∷ rs) (b ∷ bs) zero o r inside marks mark = ap (λ y. cond y (Some x.kind) None) mark
-  counted_at (x ∷ rs) (b ∷ bs) (suc i) o r inside marks mark = counted_at rs bs i o r (omega arith) (omega arith) mark
+  -- none counts where the mark is missing
+  pub unmarked_at : (rs : List (Row K S)) (bs : List Bool) (i : ℕ) (o : Option K) → i < length rs → length bs ≤ i → get_or (marked rs bs ++ o ∷ []) i None ≡ None
+  unmarked_at [] bs i o inside past = absurd (omega arith)
+  unmarked_at (r ∷ rs) [] zero o inside past = refl
+  unmarked_at (r ∷ rs) [] (suc i) o inside past = unmarked_at rs [] i o (omega arith) (omega arith)
+  unmarked_at (r ∷ rs) (b ∷ bs) zero o inside past = absurd (omega arith)
+  unmarked_at (r ∷ rs) (b ∷ bs) (suc i) o inside past = unmarked_at rs bs i o (omega arith) (omega arith)
 
   -- after the rows comes the one more
   pub more_at : (rs : List (Row K S)) (bs : List Bool) (i : ℕ) (o : Option K) → i ≡ length rs → get_or (marked rs bs ++ o ∷ []) i None ≡ o

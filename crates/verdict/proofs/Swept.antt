@@ -1,5 +1,5 @@
 -- A sweep over the rows of a table, as a walk over the points of the sum of their curves.
-use Rattle.std.proofs.Common.{◌≡◌, ℕ, ◌+◌, ◌-◌, ◌<◌, ◌≤◌, false, List, [], ◌∷◌, ◌++◌, length, get_or, Some, None, Ok, Err, Option, sym, ap, ◌∙◌, subst, ⊎_elim, arith, below_more}
+use Rattle.std.proofs.Common.{◌≡◌, ℕ, ◌+◌, ◌-◌, ◌<◌, ◌≤◌, Bool, true, false, List, [], ◌∷◌, ◌++◌, length, get_or, Some, None, Ok, Err, Option, sym, ap, ◌∙◌, subst, ⊎_elim, arith, below_more}
 use Rattle.std.specs.Option.{option_to_list}
 use Rattle.std.specs.List.{AllByRecursion}
 use Rattle.std.specs.List.Sorted.{IsPermutation}
@@ -11,12 +11,14 @@ use Rattle.traffic.specs.Curves.{Numbers, before, Rises, NextRise}
 use Rattle.traffic.specs.Laws.{CurveLaws}
 use Rattle.traffic.specs.Staircase.{before_later}
 use Rattle.verdict.specs.Demand.{total, curves}
-use Rattle.verdict.specs.Members.{present}
+use Rattle.verdict.specs.Judged.{Judgeable}
+use Rattle.verdict.specs.Members.{members, places, size}
 use Rattle.verdict.specs.Points.{Fits, rises, Walked, point_before}
 use Rattle.verdict.specs.Sweeps.{upto, row_curve, Pending, Sweep, NextPoint, left}
 use Rattle.verdict.specs.declared.Unfit.TheVariants.{Late}
+use Rattle.verdict.specs.declared.channels.Channels.{Channels}
 use Rattle.verdict.specs.declared.points.Point.{Point}
-use Rattle.verdict.proofs.Rowwise.{row_up, rows_sum}
+use Rattle.verdict.proofs.Rowwise.{row_laws, row_up, rows_sum}
 use Rattle.verdict.proofs.Totals.{nothing_at_zero}
 use Rattle.verdict.proofs.Sweeping.{level_until, sum_is, rises_there, sweep_shuffled, sweep_from, pass_on, pass_done, rises_flat, total-shuffled}
 use Rattle.verdict.proofs.Counts.{rises_up}
@@ -184,37 +186,46 @@ module _ (rc : ℕ → ℕ → ℕ) (up : (i t u : ℕ) → t ≤ u → rc i t �
       advanced_one rc up n end p rest ps qs next at (subst (λ x. IsPermutation ps (x ∷ rest)) (sym same) taken) put
       (subst (λ l. NextPoint (rc p.row) p.row t l end next) is point) (omega arith) s
 
--- the same for the rows of a table whose channels keep their laws
-module _ {K : Type 0} (m : K → Numbers) (p : ℕ) (os : List (Option K)) (laws : AllByRecursion (λ k. CurveLaws p (m k)) (present os)) (end : ℕ) where
-  abbrev all_curves : ℕ → ℕ
-  all_curves = curves m (present os)
+-- the same for the rows of a judged table
+module _ {K S : Type 0} (m : K → Numbers) (limits : K → ℕ → Bool) (shaped : (k : K) (p : ℕ) → 1 ≤ p → p ≤ 255 → limits k p ≡ true → CurveLaws p (m k)) {p : ℕ} (c : Channels K S) (judged : Judgeable limits p (size c) (members c)) (end : ℕ) where
+  abbrev rc : ℕ → ℕ → ℕ
+  rc = row_curve m (places c)
 
-  up : (i t u : ℕ) → t ≤ u → row_curve m os i t ≤ row_curve m os i u
-  up = row_up m p os laws
+  abbrev all_curves : ℕ → ℕ
+  all_curves = curves m (members c)
+
+  laws : AllByRecursion (λ k. CurveLaws p (m k)) (members c)
+  laws = row_laws m limits shaped judged
+
+  up : (i t u : ℕ) → t ≤ u → rc i t ≤ rc i u
+  up = row_up m p (places c) laws
 
   pub walk_starts : (β : ℕ → ℕ) → 0 < end → Upto all_curves end β 0 0
-  walk_starts β some = starts_upto (row_curve m os) up (length os) end all_curves (rows_sum m os) β some (nothing_at_zero m p (present os) laws)
+  walk_starts β some = starts_upto rc up (length (places c)) end all_curves (rows_sum m (places c)) β some (nothing_at_zero m p (members c) laws)
 
-  module _ {β : ℕ → ℕ} {t count sum : ℕ} {ps : List Point} (far : Upto all_curves end β t count) (s : Sweep (row_curve m os) (length os) (t + 1) (t + 1) end ps sum) where
+  module _ {β : ℕ → ℕ} {t count sum : ℕ} {ps : List Point} (far : Upto all_curves end β t count) (s : Sweep rc (length (places c)) (t + 1) (t + 1) end ps sum) where
     pub walk_ends : ps ≡ [] → Walked β all_curves end (Ok count)
-    walk_ends none = all_taken (row_curve m os) up (length os) end all_curves (rows_sum m os) far s none
+    walk_ends none = all_taken rc up (length (places c)) end all_curves (rows_sum m (places c)) far s none
 
-    module _ (q : Point) (is : head ps ≡ Some q) (first : First point_before q ps) where
-      pub walk_enters : Sweep (row_curve m os) (length os) q.t (q.t + 1) end ps sum
-      walk_enters = let x = head_is ps q is in enter (row_curve m os) up (length os) end all_curves (rows_sum m os) far s q x.0 x.1 first
+    module _ (q : Point) (is : Some q ≡ head ps) (first : First point_before q ps) where
+      front : (rest : List Point) × (ps ≡ q ∷ rest)
+      front = head_is ps q (sym is)
+
+      pub walk_enters : Sweep rc (length (places c)) q.t (q.t + 1) end ps sum
+      walk_enters = enter rc up (length (places c)) end all_curves (rows_sum m (places c)) far s q front.0 front.1 first
 
       pub walk_inside : q.t < end
-      walk_inside = let x = head_is ps q is in point_inside (row_curve m os) up (length os) end all_curves (rows_sum m os) far s q x.0 x.1 first
+      walk_inside = point_inside rc up (length (places c)) end all_curves (rows_sum m (places c)) far s q front.0 front.1 first
 
       pub walk_later : t < q.t
-      walk_later = let x = head_is ps q is in point_after_lem (row_curve m os) up (length os) end all_curves (rows_sum m os) far s q x.0 x.1 first
+      walk_later = point_after_lem rc up (length (places c)) end all_curves (rows_sum m (places c)) far s q front.0 front.1 first
 
-      module _ {more : ℕ} {qs : List Point} (after : Sweep (row_curve m os) (length os) (q.t + 1) (q.t + 1) end qs more) where
+      module _ {more : ℕ} {qs : List Point} (after : Sweep rc (length (places c)) (q.t + 1) (q.t + 1) end qs more) where
         sum_there : more ≡ all_curves q.t
-        sum_there = sum_is (row_curve m os) up (length os) end after (omega arith) walk_inside ∙ rows_sum m os q.t
+        sum_there = sum_is rc up (length (places c)) end after (omega arith) walk_inside ∙ rows_sum m (places c) q.t
 
         pub walk_goes_on : more + β q.t ≤ q.t → Upto all_curves end β q.t (count + 1)
-        walk_goes_on fits = let x = head_is ps q is in goes_on (row_curve m os) up (length os) end all_curves (rows_sum m os) far s q x.0 x.1 first (omega (arith, sum_there))
+        walk_goes_on fits = goes_on rc up (length (places c)) end all_curves (rows_sum m (places c)) far s q front.0 front.1 first (omega (arith, sum_there))
 
         pub walk_fails : q.t < more + β q.t → Walked β all_curves end (Err (Late q.t (count + 1)))
-        walk_fails late = let x = head_is ps q is in fails_there (row_curve m os) up (length os) end all_curves (rows_sum m os) far s q x.0 x.1 first (omega (arith, sum_there))
+        walk_fails late = fails_there rc up (length (places c)) end all_curves (rows_sum m (places c)) far s q front.0 front.1 first (omega (arith, sum_there))

@@ -55,13 +55,11 @@ impl<'a, K: Curve, S: Copy> Channels<'a, K, S> {
     pub(crate) fn at(&self, i: usize) -> Option<K>
         ensures { result ≡ slice_index_or (places self.now) i None }
     {
-        let rows = self.rows;
-        if i == rows.len() {
+        if i == self.rows.len() {
             return self.more;
         }
-        if i < rows.len() && i < self.counted.len() && self.counted[i] {
-            return Some(rows[i].kind);
-        }
-        None
+        let row = self.rows.get(i)?;
+        let counts = *self.counted.get(i)?;
+        counts.then_some(row.kind)
     }
 }
