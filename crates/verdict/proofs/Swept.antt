@@ -1,5 +1,5 @@
 -- A sweep over the rows of a table, as a walk over the points of the sum of their curves.
-use Rattle.std.proofs.Common.{◌≡◌, ℕ, ◌+◌, ◌-◌, ◌<◌, ◌≤◌, Bool, true, false, List, [], ◌∷◌, ◌++◌, length, get_or, Some, None, Ok, Err, Option, sym, ap, ◌∙◌, subst, ⊎_elim, arith, below_more}
+use Rattle.std.proofs.Common.{◌≡◌, ℕ, ◌+◌, ◌-◌, ◌*◌, ◌<◌, ◌≤◌, Bool, true, false, List, [], ◌∷◌, ◌++◌, length, get_or, Some, None, Ok, Err, Option, sym, ap, ◌∙◌, subst, ⊎_elim, arith, below_more}
 use Rattle.std.specs.Option.{option_to_list}
 use Rattle.std.specs.List.{AllByRecursion}
 use Rattle.std.specs.List.Sorted.{IsPermutation}
@@ -18,9 +18,9 @@ use Rattle.verdict.specs.Sweeps.{upto, row_curve, Pending, Sweep, NextPoint, lef
 use Rattle.verdict.specs.declared.Unfit.TheVariants.{Late}
 use Rattle.verdict.specs.declared.channels.Channels.{Channels}
 use Rattle.verdict.specs.declared.points.Point.{Point}
-use Rattle.verdict.proofs.Rowwise.{row_laws, row_up, rows_sum}
-use Rattle.verdict.proofs.Totals.{nothing_at_zero}
-use Rattle.verdict.proofs.Sweeping.{level_until, sum_is, rises_there, sweep_shuffled, sweep_from, pass_on, pass_done, rises_flat, total-shuffled}
+use Rattle.verdict.proofs.Rowwise.{row_laws, row_up, row_most, rows_sum}
+use Rattle.verdict.proofs.Totals.{nothing_at_zero, places_few}
+use Rattle.verdict.proofs.Sweeping.{level_until, sum_is, sum_most, rises_there, sweep_shuffled, sweep_from, pass_on, pass_done, rises_flat, total-shuffled}
 use Rattle.verdict.proofs.Counts.{rises_up}
 
 -- all rises of F up to t are counted and fit under β, and t is before the end
@@ -199,6 +199,10 @@ module _ {K S : Type 0} (m : K → Numbers) (limits : K → ℕ → Bool) (shape
 
   up : (i t u : ℕ) → t ≤ u → rc i t ≤ rc i u
   up = row_up m p (places c) laws
+
+  pub sum_small : 0 < end → end ≤ 45360 → {low from sum : ℕ} {ps : List Point} → Sweep rc (length (places c)) low from end ps sum → sum ≤ 16777216 * 33
+  sum_small some near s =
+      omega (arith, sum_most rc (length (places c)) end some (λ i v below. omega (arith, near, row_most m p (places c) laws i v)) s, places_few c judged)
 
   pub walk_starts : (β : ℕ → ℕ) → 0 < end → Upto all_curves end β 0 0
   walk_starts β some = starts_upto rc up (length (places c)) end all_curves (rows_sum m (places c)) β some (nothing_at_zero m p (members c) laws)

@@ -15,6 +15,7 @@ const MOST: u32 = 40320;
 
 impl<'a, K: Curve, S: Copy> Channels<'a, K, S> {
     // The first failing point of channels whose works fit, if there is one.
+    // That they may be judged is asked here and at `halve` alone: a check would bring back a case that cannot come.
     fn probe(&self, longest: u32) -> Option<u32>
         requires judged { Judgeable K.Curve.limits longest (size self.now) (members self.now) }
         requires works { works K.Curve.numbers (members self.now) ≤ 5040 }
@@ -35,6 +36,7 @@ impl<'a, K: Curve, S: Copy> Channels<'a, K, S> {
         let mut low = widest.longest() - 1;
         let mut high = MOST;
         let mut point = 0;
+        // a loop, for what is halved is a range: there is no index to count
         while high - low > 1 {
             let middle = low + (high - low) / 2;
             match self.with(widest.with_allowance(middle)).probe(longest) {
@@ -49,6 +51,7 @@ impl<'a, K: Curve, S: Copy> Channels<'a, K, S> {
     }
 
     // The least allowance that passes, and the first failing point one slot sooner (0 where it is the longest length).
+    // A pair, which the project asks for.
     pub fn least(&self, new: K, longest: u32) -> Result<(u32, u32), Unfit>
         ensures { Least K.Curve.numbers K.Curve.limits K.Curve.dated longest (size self.now) (rows_counted self.now) new result }
     {

@@ -31,6 +31,7 @@ pub enum Unfit {
 // How many points were taken where every one fits, or why the channels are refused.
 pub type Verdict = Result<u32, Unfit>;
 
+// The longest packet is an argument and no field: the same channels are judged under several.
 impl<'a, K: Curve, S: Copy> Channels<'a, K, S> {
     // Whether the channels may stand together on a link whose longest packet has `longest` slots.
     pub fn judge(&self, longest: u32) -> Verdict

@@ -125,6 +125,7 @@ impl<'b, 'a, K: Curve, S: Copy> Walk<'b, 'a, K, S> {
         let mut t = 0;
         let mut sum = 0;
         let mut count = 0;
+        // two loops, which the project asks for: the outer one ends by `break` at the first failing point
         'points: loop {
             match points.peek() {
                 None => break 'points Ok(count),

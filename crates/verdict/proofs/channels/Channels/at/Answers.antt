@@ -1,5 +1,4 @@
-use Rattle.std.proofs.Common.{◌≡◌, ℕ, false, sym, ap, ◌∙◌, arith}
-use Rattle.std.specs.Bool.{then_some}
+use Rattle.std.proofs.Common.{sym, ◌∙◌, arith}
 use Rattle.verdict.proofs.Places.{marked_at, unmarked_at, more_at, none_at}
 use Rattle.verdict.proofs.channels.Channels.at.Goals as goal
 

@@ -1,10 +1,7 @@
-use Rattle.std.proofs.Common.{◌<◌, sym, arith}
+use Rattle.std.proofs.Common.{sym, arith}
 use Rattle.verdict.specs.Members.{places}
-use Rattle.verdict.specs.Sweeps.{row_curve}
-use Rattle.verdict.proofs.Totals.{places_few}
-use Rattle.verdict.proofs.Rowwise.{row_laws, row_up, row_most}
-use Rattle.verdict.proofs.Sweeping.{sum_most}
-use Rattle.verdict.proofs.Swept.{first_pending, advanced_none, advance_step}
+use Rattle.verdict.proofs.Rowwise.{row_laws, row_up}
+use Rattle.verdict.proofs.Swept.{first_pending, sum_small, advanced_none, advance_step}
 use Rattle.verdict.proofs.walk.Walk.advance.Goals as goal
 
 pub returns-then-first-t : goal.returns-then-first-t
@@ -18,13 +15,10 @@ returns-then-first-t g c =
 
 pub overflow_add-result : goal.overflow_add-result
 overflow_add-result g c =
-    let laws = row_laws g.K.Curve.numbers g.K.Curve.limits g.met.K.Curve.shaped c.args.self.now.checked.judgeable in
-    let os = places c.args.self.now.checked.channels.now in
-    let most = row_most g.K.Curve.numbers c.args.self.now.checked.longest os laws in
+    let walk = c.args.self.now in
     let h = first_pending _ _ c.in_ok-first.first (sym c.in_ok-first.ensures.next) c.requires in
-    let near : c.args.t < c.args.self.now.end = omega (arith, h.below) in
-    let small = sum_most (row_curve g.K.Curve.numbers os) _ c.args.self.now.end (omega arith) (λ i v below. omega (arith, most i v)) c.requires in
-    omega (arith, small, c.curve_at-level.ensures.bound, places_few c.args.self.now.checked.channels.now c.args.self.now.checked.judgeable)
+    let small = sum_small _ _ g.met.K.Curve.shaped walk.checked.channels.now walk.checked.judgeable _ (omega (arith, h.below)) walk.near c.requires in
+    omega (arith, small, c.curve_at-level.ensures.bound, h.below, walk.near)
 
 pub returns : goal.returns
 returns g c =

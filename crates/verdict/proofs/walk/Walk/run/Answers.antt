@@ -1,11 +1,6 @@
 use Rattle.std.proofs.Common.{arith}
 use Rattle.pool.proofs.Uses.{contents_none}
-use Rattle.verdict.specs.Members.{places}
-use Rattle.verdict.specs.Sweeps.{row_curve}
-use Rattle.verdict.proofs.Totals.{places_few}
-use Rattle.verdict.proofs.Rowwise.{row_laws, row_most}
-use Rattle.verdict.proofs.Sweeping.{sum_most}
-use Rattle.verdict.proofs.Swept.{walk_starts, walk_ends, walk_enters, walk_inside, walk_later, walk_goes_on, walk_fails}
+use Rattle.verdict.proofs.Swept.{sum_small, walk_starts, walk_ends, walk_enters, walk_inside, walk_later, walk_goes_on, walk_fails}
 use Rattle.verdict.proofs.walk.Walk.run.Goals as goal
 
 pub points-init : goal.points-init
@@ -21,13 +16,8 @@ rows-init g c =
 
 pub overflow_add-sum : goal.overflow_add-sum
 overflow_add-sum g c =
-    let m = g.K.Curve.numbers in
     let walk = c.args.self.now in
-    let checked = walk.checked in
-    let os = places checked.channels.now in
-    let most = row_most m checked.longest os (row_laws m g.K.Curve.limits g.met.K.Curve.shaped checked.judgeable) in
-    let small = sum_most (row_curve m os) _ walk.end (omega (arith, walk.horizon)) (λ i v below. omega (arith, most i v)) c.rows.invariant in
-    omega (arith, small, places_few checked.channels.now checked.judgeable)
+    omega (arith, sum_small _ _ g.met.K.Curve.shaped walk.checked.channels.now walk.checked.judgeable _ (omega (arith, walk.horizon)) walk.near c.rows.invariant)
 
 pub points-preserved : goal.points-preserved
 points-preserved g c =
