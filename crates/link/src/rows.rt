@@ -28,18 +28,6 @@ impl<'a, K: Traffic> Link<'a, K> {
         ensures lent { (result.rows ≡ rows.entry) × (result.waiting.places.ghost_name ≡ waiting.entry.ghost_name) × (result.waiting.places.now ≡ waiting.old) }
         ensures promise { Promise K.Curve.numbers K.Curve.limits K.Curve.dated K.Traffic.steps (model result) }
     {
-        Link::fresh(name, longest, rows, waiting)
-    }
-
-    fn fresh(
-        name: u16,
-        longest: u32,
-        rows: &'a mut [Row<K, K::State>],
-        waiting: &'a mut [Packet],
-    ) -> Link<'a, K>
-        ensures said { model result ≡ opened name longest rows.old (length waiting.old) }
-        ensures lent { (result.rows ≡ rows.entry) × (result.waiting.places.ghost_name ≡ waiting.entry.ghost_name) × (result.waiting.places.now ≡ waiting.old) }
-    {
         let waiting = Pool::new(waiting);
         let table = Table::new();
         Link {

@@ -6,6 +6,7 @@ use std::io;
 use traffic::spaced::Spaced;
 use traffic::{Row, Traffic};
 
+// A kind by its numbers: some twenty literals would be longer.
 pub fn spaced(period: u32, longest: u32, allowance: u32) -> Spaced {
     Spaced {
         period,

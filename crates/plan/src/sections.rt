@@ -55,6 +55,7 @@ impl Reader<'_> {
         self.section = number;
         let count = self.count()?;
         let mut items = Vec::new(self.heap);
+        // how many are read; from 1, an empty section would need a fact of its own
         for read in 0..count {
             items.push(self.entry(read + 1)?)?;
         }

@@ -46,7 +46,7 @@ pub fn remove_first<T: Ordered>(s: &mut [T]) -> T
     first
 }
 
-// Moves the last element up to where it belongs; the others are a heap.
+// Moves the last element up to where it belongs; the others are a heap. The place goes along a path, so no index is counted.
 fn rise<T: Ordered>(s: &mut [T])
     requires some { 0 < length s.old }
     requires heap { Heap T.Ordered.before s.old (length s.old - 1) }
@@ -64,7 +64,7 @@ fn rise<T: Ordered>(s: &mut [T])
     }
 }
 
-// Moves the element in place 0 down to where it belongs; below it all is a heap.
+// Moves the element in place 0 down to where it belongs, along a path; below it all is a heap.
 fn sink<T: Ordered>(s: &mut [T])
     requires { Sinking T.Ordered.before s.old 0 (length s.old) }
     ensures heap { Heap T.Ordered.before s.new (length s.old) }
