@@ -8,10 +8,7 @@ ghost use Rattle.verdict.specs.Passes.{Passes};
 
 use crate::Unfit;
 use crate::channels::Channels;
-use traffic::Curve;
-
-// The longest allowance that a channel may have.
-const MOST: u32 = 40320;
+use traffic::{Curve, LONGEST_ALLOWANCE};
 
 impl<'a, K: Curve, S: Copy> Channels<'a, K, S> {
     // The first failing point of channels whose works fit, if there is one.
@@ -34,7 +31,7 @@ impl<'a, K: Curve, S: Copy> Channels<'a, K, S> {
         ensures { LeastIs K.Curve.numbers K.Curve.dated longest (rows_counted self.now) widest result.0 result.1 }
     {
         let mut low = widest.longest() - 1;
-        let mut high = MOST;
+        let mut high = LONGEST_ALLOWANCE;
         let mut point = 0;
         // a loop, for what is halved is a range: there is no index to count
         while high - low > 1 {
@@ -55,9 +52,10 @@ impl<'a, K: Curve, S: Copy> Channels<'a, K, S> {
     pub fn least(&self, new: K, longest: u32) -> Result<(u32, u32), Unfit>
         ensures { Least K.Curve.numbers K.Curve.limits K.Curve.dated longest (size self.now) (rows_counted self.now) new result }
     {
-        let widest = new.with_allowance(MOST);
+        let widest = new.with_allowance(LONGEST_ALLOWANCE);
         self.with(widest).checked(longest)?;
-        self.with(widest.with_allowance(MOST)).judge(longest)?;
+        self.with(widest.with_allowance(LONGEST_ALLOWANCE))
+            .judge(longest)?;
         Ok(self.halve(widest, longest))
     }
 }
