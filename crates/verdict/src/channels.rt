@@ -37,9 +37,8 @@ impl<'a, K: Curve, S: Copy> Channels<'a, K, S> {
         ensures size { size result ≡ size self.now }
     {
         Channels {
-            rows: self.rows,
-            counted: self.counted,
             more: Some(kind),
+            ..*self
         }
     }
 

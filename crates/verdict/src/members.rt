@@ -38,12 +38,9 @@ impl<'a, K: Copy, S: Copy> Channels<'a, K, S> {
     pub(crate) fn iter(&self) -> Members<'a, K, S>
         ensures { result.left ≡ self.now }
     {
+        // not `*self` alone: no proof covers copying a whole struct of a type parameter out of a reference
         Members {
-            left: Channels {
-                rows: self.rows,
-                counted: self.counted,
-                more: self.more,
-            },
+            left: Channels { ..*self },
         }
     }
 }
