@@ -1,7 +1,6 @@
 -- The place of the first of a list that passes a test.
-use Rattle.std.proofs.Common.{◌≡◌, ℕ, suc, ◌+◌, ◌<◌, min, Bool, true, false, cond, not, List, [], ◌∷◌, length, ltb, take, IfSome, Some, None, Option, sym, refl, ◌∙◌, subst, arith, length-take}
+use Rattle.std.proofs.Common.{◌≡◌, ℕ, suc, ◌+◌, Bool, true, false, cond, not, List, [], ◌∷◌, length, ltb, Some, None, Option, sym, refl, ◌∙◌, subst, arith}
 use Rattle.std.proofs.lemmas.Grind.{common_steps}
-use Rattle.std.proofs.lemmas.List.Quantifiers.{position-Some}
 use Rattle.std.specs.List.{position, position_or_len, slice_get}
 use Rattle.std.specs.Option.{option_map}
 
@@ -29,11 +28,3 @@ module _ {X : Type 0} (P : X → Bool) where
   pub first_passes : (xs : List X) (i : ℕ) → position P xs ≡ Some i → (y : X) × (slice_get xs i ≡ Some y) × (P y ≡ true)
   first_passes [] i h = cc
   first_passes (x ∷ xs) i h = found_passes x xs (P x) (position P xs) i refl (first_passes xs) (sym (position-cons x xs) ∙ h)
-
-  -- what is found among the first n of 32 lies below both
-  pub take_within : (xs : List X) (n : ℕ) (d : X) (r : Option ℕ) → length xs ≡ 32 → r ≡ position P (take n xs) → IfSome r (λ i. (i < 32) × (i < n))
-  take_within xs n d None l e = tt
-  take_within xs n d (Some i) l e =
-      let h : i < length (take n xs) = (position-Some P (take n xs) i d (sym e)).0 in
-      let m : length (take n xs) ≡ min n (length xs) = length-take n xs in
-      (omega arith, omega arith)

@@ -1,5 +1,6 @@
 -- The rows: their phases, what moves them, and how one is found.
-use Rattle.std.specs.Prelude.{ℕ, zero, suc, Bool, true, false, not, ◌&&◌, List, [], ◌∷◌, ◌==◌}
+use Rattle.std.specs.Borrow.{Bor}
+use Rattle.std.specs.Prelude.{◌≡◌, ℕ, zero, suc, Bool, true, false, not, ◌&&◌, List, [], ◌∷◌, ◌==◌}
 use Rattle.link.specs.declared.state.Record.{Record}
 use Rattle.link.specs.declared.state.Phase.{Phase}
 use Rattle.link.specs.declared.state.Phase.TheVariants.{Free, Held, Live, Leaving}
@@ -63,6 +64,10 @@ counted_of mat r = r.mat == mat && counts r.phase
 
 abbrev pub held_of : ℕ → ℕ → Record → Bool
 held_of mat serial r = r.mat == mat && (r.serial == serial && is_held r.phase)
+
+-- a closure that answers so of a record makes the test P
+abbrev pub Tests : (Bor Record → Bool → Type 0) → (Record → Bool) → Type 0
+Tests answers P = (r : Bor Record) (b : Bool) → answers r b → b ≡ P r.now
 
 -- a release is what makes a row leave
 abbrev pub releases : Event → Bool

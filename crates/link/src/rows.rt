@@ -6,7 +6,8 @@ ghost use Rattle.link.specs.Holding.{Vacant, hold_of, filled};
 ghost use Rattle.link.specs.Model.{model, opened, find, channels, with_rows, on_entry, on_row};
 ghost use Rattle.link.specs.Memory.{NothingLent, RowsOnly};
 ghost use Rattle.link.specs.Promise.{Promise};
-ghost use Rattle.link.specs.Rows.{blank, changed, counted, moved, is_free, counted_of, held_of};
+ghost use Rattle.link.specs.declared.state.Record.{Record};
+ghost use Rattle.link.specs.Rows.{blank, changed, counted, moved, is_free, counted_of, held_of, Tests};
 
 use crate::state::{Event, Hold, Link, Mat, Packet, Phase, Record, Table};
 use pool::Pool;
@@ -71,12 +72,22 @@ impl<'a, K: Traffic> Link<'a, K> {
         Ok(())
     }
 
+    // The place of the first row whose record is wanted.
+    fn find<F: Fn(&Record) -> bool>(&self, wanted: F) -> Option<usize>
+        requires { F.IsAlwaysCallable wanted }
+        ensures found { (P : Record → Bool) → Tests (F.post wanted) P → result ≡ find P (model self.now) }
+        ensures within { IfSome result (λ i. (i < 32) × (i < length self.now.rows.now)) }
+    {
+        let mut records = self.table.records.iter().take(self.rows.len());
+        records.position(wanted)
+    }
+
     // The place of the counted row of a mat.
     pub(crate) fn row_of(&self, mat: Mat) -> Option<usize>
         ensures found { result ≡ find (counted_of mat) (model self.now) }
         ensures within { IfSome result (λ i. (i < 32) × (i < length self.now.rows.now)) }
     {
-        self.table.counted_of(mat, self.rows.len())
+        self.find(|row| row.mat == mat && row.phase.counts())
     }
 
     // The place of the held row of a hold.
@@ -84,7 +95,7 @@ impl<'a, K: Traffic> Link<'a, K> {
         ensures found { result ≡ find (held_of mat serial) (model self.now) }
         ensures within { IfSome result (λ i. (i < 32) × (i < length self.now.rows.now)) }
     {
-        self.table.held_of(mat, serial, self.rows.len())
+        self.find(|row| row.mat == mat && row.serial == serial && row.phase == Phase::Held)
     }
 
     // A copy of the row at a place that a search found. A place is a plain number here and below: it indexes two arrays, of which one is lent,
@@ -104,7 +115,7 @@ impl<'a, K: Traffic> Link<'a, K> {
         ensures vacant { IfSome result (Vacant (model self.now)) }
         ensures free { IfSome result (λ i. (slice_index_or self.now.table.records i blank).phase ≡ Phase.Free) }
     {
-        self.table.free(self.rows.len())
+        self.find(|row| !row.phase.counts())
     }
 
     // Moves the row at a place by an event.

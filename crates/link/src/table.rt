@@ -1,7 +1,6 @@
 // The table of the rows' records.
-ghost use Rattle.std.specs.Prelude.{◌≡◌, ℕ, ◌+◌, ◌<◌, ◌≤◌, Bool, true, false, ◌||◌, map, length, take, replicate, MatchOption, slice_index_or, slice_set};
-ghost use Rattle.std.specs.List.{position};
-ghost use Rattle.link.specs.Rows.{blank, counts, counted, may_release_lem, is_free, counted_of, held_of, changed, moved, releases, none_leaving};
+ghost use Rattle.std.specs.Prelude.{◌≡◌, ℕ, ◌+◌, ◌<◌, ◌≤◌, Bool, true, false, ◌||◌, map, length, replicate, MatchOption, slice_index_or, slice_set};
+ghost use Rattle.link.specs.Rows.{blank, counts, counted, may_release_lem, changed, moved, releases, none_leaving};
 
 use crate::state::{Event, Mat, Phase, Record, Table};
 
@@ -52,30 +51,6 @@ impl Table {
             records: [blank; 32],
             leaving: false,
         }
-    }
-
-    // The place of the first free row of the first n.
-    pub(crate) fn free(&self, n: usize) -> Option<usize>
-        ensures { result ≡ position is_free (take n self.now.records) }
-    {
-        let mut rows = self.records.iter().take(n);
-        rows.position(|row| !row.phase.counts())
-    }
-
-    // The place of the counted row of a mat among the first n.
-    pub(crate) fn counted_of(&self, mat: Mat, n: usize) -> Option<usize>
-        ensures { result ≡ position (counted_of mat) (take n self.now.records) }
-    {
-        let mut rows = self.records.iter().take(n);
-        rows.position(|row| row.mat == mat && row.phase.counts())
-    }
-
-    // The place of the held row of a hold among the first n.
-    pub(crate) fn held_of(&self, mat: Mat, serial: u32, n: usize) -> Option<usize>
-        ensures { result ≡ position (held_of mat serial) (take n self.now.records) }
-    {
-        let mut rows = self.records.iter().take(n);
-        rows.position(|row| row.mat == mat && row.serial == serial && row.phase == Phase::Held)
     }
 
     // Which rows are counted.
