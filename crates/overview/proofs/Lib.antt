@@ -1,3 +1,4 @@
+mod Answering
 mod Granting
 mod Rising
 mod Rowwise

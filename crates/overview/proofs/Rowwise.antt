@@ -1,5 +1,5 @@
 -- The channels of rows that stand together, row by row.
-use Rattle.std.proofs.Common.{◌≡◌, ℕ, ◌<◌, ◌≤◌, max, Bool, true, List, [], ◌∷◌, ◌++◌, map, length, get_or, sum_by, Bor, Iter, sym, refl, subst, ⊎_elim, arith}
+use Rattle.std.proofs.Common.{◌≡◌, ℕ, ◌<◌, ◌≤◌, max, Bool, true, List, [], ◌∷◌, map, length, get_or, sum_by, Bor, Iter, sym, refl, subst, ⊎_elim, arith}
 use Rattle.std.specs.Iterator.{CallableAtEachTurn}
 use Rattle.std.specs.List.{AllByRecursion, fold, reduce}
 use Rattle.std.specs.Option.{unwrap_or}
@@ -7,7 +7,6 @@ use Rattle.std.proofs.ByRecursion.{All-get_or}
 use Rattle.std.proofs.lemmas.Fn.{serves_by, fronts}
 use Rattle.std.proofs.lemmas.Iterator.{YieldsList-from_slice}
 use Rattle.std.proofs.lemmas.Iterator.Consumers.{YieldsList-turn}
-use Rattle.std.proofs.lemmas.List.{map-append}
 use Rattle.std.proofs.lemmas.List.Recursion.{is_sum_by}
 use Rattle.std.proofs.lemmas.Bool.{cases_lt}
 use Rattle.traffic.specs.Curves.{Numbers}
@@ -16,9 +15,6 @@ use Rattle.traffic.specs.declared.Row.{Row}
 use Rattle.verdict.specs.Demand.{total, largest, curves}
 use Rattle.verdict.specs.Members.{kinds}
 use Rattle.overview.specs.Standing.{Stands}
-
-pub kinds_push : {K S : Type 0} (rs : List (Row K S)) (r : Row K S) → kinds (rs ++ r ∷ []) ≡ kinds rs ++ r.kind ∷ []
-kinds_push rs r = map-append (λ x. x.kind) rs (r ∷ [])
 
 -- what holds of each channel holds of that in each row
 pub rows_hold : {K S : Type 0} (P : K → Type 0) (rs : List (Row K S)) → AllByRecursion P (kinds rs) → AllByRecursion (λ r. P r.kind) rs

@@ -1,5 +1,5 @@
 -- What the picture shows of channels that stand together: points, the demand there and the slack.
-use Rattle.std.specs.Prelude.{◌≡◌, ℕ, ◌+◌, ◌-◌, ◌<◌, ◌≤◌, min, cond, List, Some, None, Option, nat_le}
+use Rattle.std.specs.Prelude.{◌≡◌, ℕ, ◌+◌, ◌-◌, ◌<◌, ◌≤◌, cond, List, Some, None, Option, nat_le}
 use Rattle.traffic.specs.Curves.{Rises}
 use Rattle.traffic.specs.declared.Curve.{Ghosts as CurveGhosts}
 use Rattle.verdict.specs.Members.{kinds}
@@ -8,12 +8,6 @@ use Rattle.overview.specs.declared.rows.Point.{Point}
 
 abbrev pub channels : {K S : Type 0} {c : CurveGhosts K} → Picture K S c → List K
 channels s = kinds s.rows.now
-
--- the smaller of two, where there are two
-abbrev pub sooner : Option ℕ → Option ℕ → Option ℕ
-sooner None b = b
-sooner (Some x) None = Some x
-sooner (Some x) (Some y) = Some (min x y)
 
 -- a point of the demand F under the longest packet p: with its demand and the blocking, the slack fills all t slots
 pub record Shown (F : ℕ → ℕ) (p : ℕ) (q : Point) : Type 0 where

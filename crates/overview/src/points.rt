@@ -3,20 +3,10 @@ ghost use Rattle.std.specs.Prelude.{◌≡◌, ◌<◌, ◌≤◌, Decides};
 ghost use Rattle.traffic.specs.Curves.{Rises, NextRise};
 ghost use Rattle.traffic.specs.Laws.{Within};
 ghost use Rattle.verdict.specs.Demand.{curves, largest};
-ghost use Rattle.overview.specs.Picture.{channels, sooner, closer, NextPoint, Tightest};
+ghost use Rattle.overview.specs.Picture.{channels, closer, NextPoint, Tightest};
 
 use crate::rows::{Picture, Point};
 use traffic::{Curve, FRAME};
-
-// The smaller of two, where there are two.
-fn earlier(a: Option<u64>, b: Option<u64>) -> Option<u64>
-    ensures { result ≡ sooner a b }
-{
-    match (a, b) {
-        (Some(x), Some(y)) => Some(x.min(y)),
-        _ => a.or(b),
-    }
-}
 
 // Whether a channel's curve rises at t.
 pub(crate) fn rises<K: Curve>(kind: &K, t: u32) -> bool
@@ -41,7 +31,8 @@ impl<'a, K: Curve, S: Copy> Picture<'a, K, S> {
     {
         self.rows
             .iter()
-            .fold(None, |first, row| earlier(first, row.kind.next_rise(t)))
+            .filter_map(|row| row.kind.next_rise(t))
+            .min()
     }
 
     // The first point after t and before the end, if there is one.

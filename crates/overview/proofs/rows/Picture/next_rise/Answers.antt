@@ -1,25 +1,23 @@
-use Rattle.std.proofs.Common.{◌≡◌, ℕ, [], ◌∷◌, ◌++◌, Option, sym, subst, rules}
-use Rattle.std.proofs.lemmas.Fn.{fold_over, slice_gives, fronts}
+use Rattle.std.proofs.Common.{subst, rules}
+use Rattle.std.proofs.lemmas.Iterator.{YieldsList-from_slice}
+use Rattle.std.proofs.lemmas.Iterator.Consumers.{YieldsList-at}
 use Rattle.traffic.specs.Curves.{NextRise}
-use Rattle.traffic.specs.Laws.{CurveLaws}
+use Rattle.verdict.specs.Demand.{curves}
 use Rattle.verdict.proofs.Rowwise.{row_laws}
-use Rattle.overview.specs.Picture.{sooner}
-use Rattle.overview.proofs.Rising.{Next, none_rises, next_sooner}
-use Rattle.overview.proofs.Rowwise.{serves_rows, rows_hold}
+use Rattle.overview.specs.Picture.{channels}
+use Rattle.overview.proofs.Answering.{least_answer}
+use Rattle.overview.proofs.Rising.{Next, soonest_rise}
+use Rattle.overview.proofs.Rowwise.{serves_rows}
 use Rattle.overview.proofs.rows.Picture.next_rise.Goals as goal
 
-pub fold-requires-clause-callable : goal.fold-requires-clause-callable
-fold-requires-clause-callable g c = serves_rows _ _ _ _ c.args.self.now.stands _ _ _ _ (cc) (λ q x w. search (rules, w))
+pub min-requires-clause-can : goal.min-requires-clause-can
+min-requires-clause-can g c = (tt, tt, serves_rows _ _ _ _ c.args.self.now.stands _ _ _ _ (cc) (λ q x w. search (rules, w)))
 
 pub returns : goal.returns
 returns g c =
     let self = c.args.self.now in
     let m = g.K.Curve.numbers in
-    let t = c.args.t in
-    let laws = rows_hold (λ k. CurveLaws self.longest (m k)) self.rows.now (row_laws m _ g.met.K.Curve.shaped self.stands.judged) in
-    let next = fold_over fronts (λ x. x.now) _ (Next m self.longest t) _
-    (λ rs first x next f so_far k.
-    let here : (b : Option ℕ) × NextRise (m x.now.kind).curve t b × (next ≡ sooner first b) = search rules in
-    (subst (λ o. Next m self.longest t (rs ++ x.now ∷ []) o) (sym here.2) (next_sooner m self.longest t rs x.now first here.0 so_far here.1), search rules))
-    c.iter.result _ _ _ (slice_gives c.iter.result) (λ _. none_rises m t) c.fold.ensures.ran in
-    subst (λ rs. Next m self.longest t rs c.fold.result) c.iter.ensures.rest next laws
+    let laws = row_laws m _ g.met.K.Curve.shaped self.stands.judged in
+    let source = YieldsList-at c.filter_map.ensures.source (YieldsList-from_slice self.rows.now (cc)) in
+    let least = least_answer c.filter_map.result c.min.result c.min.ensures.ran source c.filter_map.ensures.closure (Next m self.longest c.args.t) (λ x r q k. search rules) in
+    subst (NextRise (curves m (channels self)) c.args.t) least.2 (soonest_rise m self.longest c.args.t self.rows.now least.0 laws least.1)
