@@ -12,6 +12,7 @@ mod reasons;
 mod rows;
 
 use answers::decisions::Granted;
+use lines::Line;
 use plan::{Channel, Fault, Plan, read};
 use points::rises;
 use reasons::Reason;
@@ -142,7 +143,7 @@ fn take_channels(rt: &HostRuntime, longest: u32, channels: &[Channel]) -> io::Re
 fn print_picture(rt: &HostRuntime, plan: &Plan) -> io::Result<()> {
     let longest = plan.longest;
     if !(1..=255).contains(&longest) {
-        return println!(rt; "P 1");
+        return println!(rt; "{}", Line::Opened { shut: true });
     }
     let blocking = longest - 1;
     println!(rt; "longest packet {longest} slots, blocking {blocking} slots")?;
@@ -161,7 +162,9 @@ fn main(rt: HostRuntime) -> io::Result<()> {
     rt.stdin().read_to_end(&mut text)?;
     match read(rt.alloc(), &text) {
         Ok(plan) => print_picture(&rt, &plan),
-        Err(Fault::Malformed { section, line }) => println!(rt; "E {section} {line}"),
+        Err(Fault::Malformed { section, line }) => {
+            println!(rt; "{}", Line::Malformed { section, line })
+        }
         Err(Fault::NoMemory) => Err(AllocError.into()),
     }
 }
