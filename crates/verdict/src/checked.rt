@@ -22,7 +22,7 @@ impl<'a, K: Curve, S: Copy> Channels<'a, K, S> {
     fn judgeable(&self, longest: u32) -> bool
         ensures { Decides result (Judgeable K.Curve.limits longest (size self.now) (members self.now)) }
     {
-        if longest < 1 || longest > 255 || self.rows.len() > 32 {
+        if !(1..=255).contains(&longest) || self.rows.len() > 32 {
             return false;
         }
         self.iter().all(|k| k.within(longest))
