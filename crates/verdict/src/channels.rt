@@ -4,7 +4,7 @@ ghost use Rattle.verdict.specs.Members.{places, members, rows_counted, size, kin
 
 use traffic::{Curve, Row};
 
-// Rows and marks stay two slices: a link lends the rows, and keeps the marks in a table of its own beside them.
+// Rows and marks stay two slices: a link keeps records beside the rows it is lent, and makes the marks for a call.
 #[derive(Clone, Copy)]
 pub struct Channels<'a, K, S> {
     pub rows: &'a [Row<K, S>],

@@ -54,6 +54,7 @@ impl<'a, K: Curve, S: Copy> Channels<'a, K, S> {
     {
         let widest = new.with_allowance(LONGEST_ALLOWANCE);
         self.with(widest).checked(longest)?;
+        // given anew, for the law speaks of a kind within its limits that is given another allowance
         self.with(widest.with_allowance(LONGEST_ALLOWANCE))
             .judge(longest)?;
         Ok(self.halve(widest, longest))

@@ -6,6 +6,7 @@ ghost use Rattle.verdict.specs.Members.{members};
 use crate::channels::Channels;
 
 // Those that are still to come.
+// An iterator of its own: a chain's type would hold closures, which a struct cannot name.
 #[derive(Drop)]
 pub(crate) struct Members<'a, K, S> {
     left: Channels<'a, K, S>,
