@@ -81,20 +81,18 @@ fn figures(rt: &HostRuntime) -> io::Result<()> {
 // with the longest allowance, puts the end of the points as far as it can be.
 fn cover(heap: Global) -> io::Result<Vec<Row<Kind, ()>>> {
     let mut rows = Vec::new(heap);
-    for k in 0..15 {
-        rows.push(row(30, 1, 2 * k + 1))?;
-    }
-    for (period, step, last) in [
-        (4, 2, 1),
-        (8, 4, 1),
-        (16, 8, 1),
-        (48, 16, 2),
-        (144, 48, 2),
-        (720, 144, 4),
-        (5040, 720, 6),
+    for (period, first, step, channels) in [
+        (30, 1, 2, 15),
+        (4, 2, 2, 1),
+        (8, 4, 4, 1),
+        (16, 8, 8, 1),
+        (48, 16, 16, 2),
+        (144, 48, 48, 2),
+        (720, 144, 144, 4),
+        (5040, 720, 720, 6),
     ] {
-        for k in 0..last {
-            rows.push(row(period, 1, step * (k + 1)))?;
+        for k in 0..channels {
+            rows.push(row(period, 1, first + step * k))?;
         }
     }
     Ok(rows)
