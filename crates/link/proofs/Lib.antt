@@ -16,6 +16,7 @@ pub mod Lining
 pub mod Starting
 pub mod Places
 pub mod Refining
+pub mod Keeping
 pub mod Accepting
 pub mod Passing
 pub mod Promises

@@ -1,5 +1,5 @@
 -- What the sender's calls answer, and what the link then holds: offer and bulk.
-use Rattle.std.specs.Prelude.{◌≡◌, ℕ, ◌+◌, Bool, cond, ◌&&◌, List, ◌∷◌, length, Some, None, Ok, Err, Option, Result, ◌==◌}
+use Rattle.std.specs.Prelude.{◌≡◌, ℕ, ◌+◌, Bool, true, false, cond, ◌&&◌, List, ◌∷◌, length, Some, None, Ok, Err, Option, Result, ◌==◌}
 use Rattle.std.specs.List.{slice_get}
 use Rattle.std.specs.Option.{option_map}
 use Rattle.std.specs.List.Sorted.{IsPermutation}
@@ -19,6 +19,12 @@ module _ {X S : Type 0} where
   -- one more accepted packet, with this waiting list
   abbrev pub queued : Model X S → List Packet → Model X S
   queued m ps = record m { offers = m.offers + 1; waiting = ps }
+
+  -- a packet waits, wherever it lies in the bag; or all places are taken
+  abbrev pub Waits : Packet → Model X S → Result (Unit {0}) Refusal → Model X S → Type 0
+  Waits p m (Ok u) o =
+      ((length m.waiting == m.terms.places) ≡ false) × IsPermutation (p ∷ m.waiting) o.waiting × (o ≡ queued m o.waiting)
+  Waits p m (Err e) o = ((length m.waiting == m.terms.places) ≡ true) × (e ≡ Full) × (o ≡ m)
 
   module _ (numbers : X → Numbers) (limits : X → ℕ → Bool) (steps : X → Steps S) where
     -- the row after its kind's step, and when the packet is due; none if the kind does not take it

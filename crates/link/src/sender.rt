@@ -1,13 +1,11 @@
 // The sender: offers, bulk packets and ticks.
-ghost use Rattle.std.specs.Prelude.{◌≡◌, ℕ, ◌+◌, ◌<◌, ◌≤◌, Bool, true, false, ◌∷◌, length, None, ◌==◌};
+ghost use Rattle.std.specs.Prelude.{◌≡◌, ℕ, ◌+◌, ◌<◌, ◌≤◌, Bool, true, false, length, None, ◌==◌};
 ghost use Rattle.std.specs.Option.{option_map};
-ghost use Rattle.std.specs.List.Sorted.{IsPermutation};
-ghost use Rattle.pool.specs.Contents.{contents};
 ghost use Rattle.link.specs.Model.{model};
 ghost use Rattle.link.specs.Memory.{Kept, NothingLent, WaitingOnly, RowsAndWaiting};
 ghost use Rattle.link.specs.Packets.{told};
 ghost use Rattle.link.specs.Pieces.{Pieces, seen};
-ghost use Rattle.link.specs.Sending.{admitted, queued, Offers, Bulks};
+ghost use Rattle.link.specs.Sending.{admitted, Waits, Offers, Bulks};
 ghost use Rattle.link.specs.Ticking.{Begins, quiet, passed, Ticks};
 
 use crate::packets::{bulk_bytes, is_mat, offer_bytes, slots};
@@ -38,23 +36,16 @@ fn admitted<K: Traffic>(
 }
 
 impl<'a, K: Traffic> Link<'a, K> {
-    // Whether the waiting list is full.
-    fn full(&self) -> bool
-        ensures { result ≡ (length (model self.now).waiting == (model self.now).terms.places) }
-    {
-        self.waiting.is_full()
-    }
-
-    // Adds a packet to those that wait.
-    fn wait(&mut self, packet: Packet)
-        requires room { (length (model self.old).waiting == (model self.old).terms.places) ≡ false }
+    // Adds a packet to those that wait, if there is a place.
+    fn wait(&mut self, packet: Packet) -> Result<(), Refusal>
         requires open { (model self.old).terms.shut ≡ false }
-        ensures bag { IsPermutation (packet ∷ contents self.old.waiting) (contents self.new.waiting) }
-        ensures said { model self.new ≡ queued (model self.old) (contents self.new.waiting) }
+        ensures said { Waits packet (model self.old) result (model self.new) }
+        ensures kept { Kept result self.old self.new }
         ensures lent { WaitingOnly self.old self.new }
     {
-        let _ = self.waiting.put(packet);
+        self.waiting.put(packet).map_err(|_| Refusal::Full)?;
         self.offers = self.offers + 1;
+        Ok(())
     }
 
     // A packet of a live mat: it waits, due as many slots from now as its kind allows.
@@ -76,16 +67,13 @@ impl<'a, K: Traffic> Link<'a, K> {
         let (stepped, due) = admitted(row, self.longest, self.clock, slots(bytes)).ok_or(
             Refusal::Unlawful,
         )?;
-        if self.full() {
-            return Err(Refusal::Full);
-        }
         self.wait(Packet {
             due,
             mat,
             count: self.offers,
             place,
             bytes,
-        });
+        })?;
         self.store(i, stepped);
         Ok(())
     }
