@@ -1,11 +1,8 @@
--- What is told of a plan and of a text.
+-- What is told of a plan.
 use Rattle.std.proofs.Common.{◌≡◌, ℕ, ◌≤◌, Bool, true, false, List, [], ◌∷◌, length, Ok, Err, IfOk, MatchBool, Result, sym, subst}
-use Rattle.plan.specs.Format.{Script, script}
+use Rattle.plan.specs.Format.{Script}
 use Rattle.plan.specs.Kinds.{Kind}
-use Rattle.plan.specs.Reading.{Read}
 use Rattle.plan.specs.declared.Channel.{Channel}
-use Rattle.plan.specs.declared.Plan.{Plan}
-use Rattle.lines.specs.Texts as texts
 use Rattle.lines.specs.declared.Line.{Line}
 use Rattle.lines.specs.declared.Line.TheVariants.{Opened}
 use Rattle.answers.specs.Answers.{opens, Extended, ToldBy}
@@ -26,7 +23,7 @@ module _ {Shows : ℕ → List Kind → Channel → Decision → Line → Type 0
   told_as s ls told = either_as (opens s.longest) (Extended Shows s.longest s.channels (Opened false ∷ []) ls) (Extended Others s.longest s.channels (Opened false ∷ []) ls) (ls ≡ Opened true ∷ [])
       (λ (mats, ks, more, so_far, is). (mats, ks, more, decisions_as Others (into s.longest) so_far, is)) told
 
-  -- a plan that was read is told of in other words
-  pub text_told : {V E : Type 0} (bytes : List ℕ) (plan : Plan) (items : V → List Line) (r : Result V E) → Read bytes (Ok plan) → IfOk r (λ v. ToldBy Shows (script plan) (items v)) → IfOk r (λ v. texts.Told (ToldBy Others) bytes (items v))
-  text_told bytes plan items (Ok v) read told = (Ok plan, read, told_as (script plan) (items v) told)
-  text_told bytes plan items (Err e) read told = told
+  -- the lines of a plan, if there was memory for them, in other words
+  pub plan_told : {V E : Type 0} (s : Script) (items : V → List Line) (r : Result V E) → IfOk r (λ v. ToldBy Shows s (items v)) → IfOk r (λ v. ToldBy Others s (items v))
+  plan_told s items (Ok v) told = told_as s (items v) told
+  plan_told s items (Err e) told = told

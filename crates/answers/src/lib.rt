@@ -2,39 +2,47 @@
 #![tactic(auto)]
 
 ghost use Rattle.std.specs.Prelude.{◌≡◌, IfOk};
-ghost use Rattle.answers.specs.Answers.{Answered, LeastAnswered, ToldBy, opens};
+ghost use Rattle.answers.specs.Answers.{Answered, LeastAnswered, Told, LeastsTold, ToldBy, opens};
 ghost use Rattle.answers.specs.Granted.{Shown};
 ghost use Rattle.plan.specs.Format.{script};
 
 pub mod decisions;
 
 use decisions::{Decision, Granted};
-use lines::{Line, refused};
-use plan::{Channel, Plan, read};
+use lines::{Line, tell_text};
+use plan::{Channel, Plan};
 use std::alloc::{AllocError, Global};
 
 // The lines to print for a text: for a malformed one its place alone, else what opening and each channel answer.
 pub fn answer(heap: Global, text: &[u8]) -> Result<Vec<Line>, AllocError>
     ensures { IfOk result (λ ls. Answered text.now ls.items) }
 {
-    match read(heap, text) {
-        Ok(plan) => tell(
-            heap,
-            &plan,
-            |_, channel, decision| Line::of_channel(channel, decision),
-        ),
-        Err(fault) => refused(heap, fault),
-    }
+    tell_text(heap, text, |plan| tell_decisions(heap, plan))
 }
 
 // The same with the least allowance of each channel in place of its answer.
 pub fn least(heap: Global, text: &[u8]) -> Result<Vec<Line>, AllocError>
     ensures { IfOk result (λ ls. LeastAnswered text.now ls.items) }
 {
-    match read(heap, text) {
-        Ok(plan) => tell(heap, &plan, |granted, channel, _| granted.least(channel)),
-        Err(fault) => refused(heap, fault),
-    }
+    tell_text(heap, text, |plan| tell_leasts(heap, plan))
+}
+
+// The lines of a plan that tell the decisions.
+fn tell_decisions(heap: Global, plan: &Plan) -> Result<Vec<Line>, AllocError>
+    ensures { IfOk result (λ ls. Told (script plan.now) ls.items) }
+{
+    tell(
+        heap,
+        plan,
+        |_, channel, decision| Line::of_channel(channel, decision),
+    )
+}
+
+// The lines of a plan that tell the least allowances.
+fn tell_leasts(heap: Global, plan: &Plan) -> Result<Vec<Line>, AllocError>
+    ensures { IfOk result (λ ls. LeastsTold (script plan.now) ls.items) }
+{
+    tell(heap, plan, |granted, channel, _| granted.least(channel))
 }
 
 // Whether a link opens whose longest packet has so many slots.

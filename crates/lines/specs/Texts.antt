@@ -1,5 +1,7 @@
 -- What a text is answered.
-use Rattle.std.specs.Prelude.{◌≡◌, ℕ, List, [], ◌∷◌, Ok, Err, Result}
+use Rattle.std.specs.Prelude.{◌≡◌, ℕ, List, [], ◌∷◌, Ok, Err, Result, Vec, vec_items}
+use Rattle.std.specs.Fn.{Once, FnOnceReturns}
+use denote.Ref.{Bor}
 use Rattle.plan.specs.Format.{Script, script}
 use Rattle.plan.specs.Reading.{Read}
 use Rattle.plan.specs.declared.Fault.{Fault}
@@ -20,3 +22,7 @@ ToldOf Tells (Err e) ls = Refused e ls
 
 abbrev pub Told : (Script → List Line → Type 0) → List ℕ → List Line → Type 0
 Told Tells bytes ls = (r : Result Plan Fault) × Read bytes r × ToldOf Tells r ls
+
+-- what a closure answers to the plan of a script
+abbrev pub TellsBy : {F Z E : Type 0} → Once F (Bor Plan × Unit {0}) (Result (Vec Line Z) E) → F → Script → List Line → Type 0
+TellsBy {Z = Z} g f s ls = (plan : Bor Plan) × (lines : Vec Line Z) × FnOnceReturns g f (plan, tt) (Ok lines) × (script plan.now ≡ s) × (vec_items lines ≡ ls)

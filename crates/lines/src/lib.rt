@@ -3,12 +3,12 @@
 
 ghost use Rattle.std.specs.Prelude.{◌≡◌, Some, IfOk};
 ghost use Rattle.lines.specs.Lines.{point_and_count, least_values, printed, channel_line_lem, least_line_lem};
-ghost use Rattle.lines.specs.Texts.{Refused};
+ghost use Rattle.lines.specs.Texts.{Refused, Told, TellsBy};
 
 pub mod cases;
 pub mod replies;
 
-use plan::{Channel, Fault, Kind};
+use plan::{Channel, Fault, Kind, Plan, read};
 use refusals::{Refusal, answered};
 use std::alloc::{AllocError, Global};
 use std::fmt;
@@ -88,8 +88,23 @@ impl Line {
     }
 }
 
+// The lines that a text is answered: what this tells of its plan, or the place of its first malformed line.
+pub fn tell_text<F: FnOnce(&Plan) -> Result<Vec<Line>, AllocError>>(
+    heap: Global,
+    text: &[u8],
+    tell: F,
+) -> Result<Vec<Line>, AllocError>
+    requires { F.IsAlwaysCallable tell }
+    ensures { IfOk result (λ ls. Told (TellsBy F.FnOnce tell) text.now ls.items) }
+{
+    match read(heap, text) {
+        Ok(plan) => tell(&plan),
+        Err(fault) => refused(heap, fault),
+    }
+}
+
 // The line of a text that is not a plan.
-pub fn refused(heap: Global, fault: Fault) -> Result<Vec<Line>, AllocError>
+fn refused(heap: Global, fault: Fault) -> Result<Vec<Line>, AllocError>
     ensures { IfOk result (λ ls. Refused fault ls.items) }
 {
     match fault {

@@ -10,8 +10,7 @@ mod joins;
 mod runs;
 
 use asks::ask_plan;
-use lines::{Line, refused};
-use plan::read;
+use lines::{Line, tell_text};
 use runs::run_plan;
 use std::alloc::{AllocError, Global};
 
@@ -19,18 +18,12 @@ use std::alloc::{AllocError, Global};
 pub fn answer(heap: Global, text: &[u8]) -> Result<Vec<Line>, AllocError>
     ensures { IfOk result (λ ls. Answered text.now ls.items) }
 {
-    match read(heap, text) {
-        Ok(plan) => run_plan(heap, &plan),
-        Err(fault) => refused(heap, fault),
-    }
+    tell_text(heap, text, |plan| run_plan(heap, plan))
 }
 
 // The same with the least allowance of each channel in place of the answers; the plan's calls are not made.
 pub fn least(heap: Global, text: &[u8]) -> Result<Vec<Line>, AllocError>
     ensures { IfOk result (λ ls. LeastAnswered text.now ls.items) }
 {
-    match read(heap, text) {
-        Ok(plan) => ask_plan(heap, &plan),
-        Err(fault) => refused(heap, fault),
-    }
+    tell_text(heap, text, |plan| ask_plan(heap, plan))
 }
