@@ -30,6 +30,12 @@ pub record Upto (F : ℕ → ℕ) (end : ℕ) (β : ℕ → ℕ) (t count : ℕ)
   pub counted : count ≡ rises F (t + 1)
   pub fit : (u : ℕ) → u < t + 1 → Rises F u → Fits β F u
 
+-- the walk is past some t: the points up to it are taken, and the sweep stands behind it
+pub record Past (rc : ℕ → ℕ → ℕ) (n : ℕ) (F : ℕ → ℕ) (end : ℕ) (β : ℕ → ℕ) (ps : List Point) (sum count : ℕ) : Type 0 where
+  pub t : ℕ
+  pub far : Upto F end β t count
+  pub swept : Sweep rc n (t + 1) (t + 1) end ps sum
+
 -- the first point is the earliest
 pub earliest : (p : Point) (ps : List Point) → First point_before p ps → AllByRecursion (λ q. p.t ≤ q.t) ps
 earliest p ps first = All-from_get_or (λ q. p.t ≤ q.t) ps p (λ i inside. not_before (get_or ps i p) (first i p inside))
@@ -218,11 +224,8 @@ module _ {K S : Type 0} (m : K → Numbers) (limits : K → ℕ → Bool) (shape
       pub walk_enters : Sweep rc (length (places c)) q.t (q.t + 1) end ps sum
       walk_enters = enter rc up (length (places c)) end all_curves (rows_sum m (places c)) far s q front.0 front.1 first
 
-      pub walk_inside : q.t < end
+      walk_inside : q.t < end
       walk_inside = point_inside rc up (length (places c)) end all_curves (rows_sum m (places c)) far s q front.0 front.1 first
-
-      pub walk_later : t < q.t
-      walk_later = point_after_lem rc up (length (places c)) end all_curves (rows_sum m (places c)) far s q front.0 front.1 first
 
       module _ {more : ℕ} {qs : List Point} (after : Sweep rc (length (places c)) (q.t + 1) (q.t + 1) end qs more) where
         sum_there : more ≡ all_curves q.t

@@ -122,15 +122,14 @@ impl<'b, 'a, K: Curve, S: Copy> Walk<'b, 'a, K, S> {
         }; 33];
         let mut points = Pool::new(&mut memory);
         self.fill(&mut points);
-        let mut t = 0;
         let mut sum = 0;
         let mut count = 0;
         // two loops, which the project asks for: the outer one ends by `break` at the first failing point
         'points: loop {
-            match points.peek() {
+            let t = match points.peek() {
                 None => break 'points Ok(count),
-                Some(first) => t = first.t,
-            }
+                Some(first) => first.t,
+            };
             'rows: while let Some(more) = self.advance(&mut points, t, sum) {
                 sum = more;
             }
