@@ -1,6 +1,6 @@
 // Packets: their length in slots, and the limits of their bytes.
-ghost use Rattle.std.specs.Prelude.{◌≡◌, ℕ, ◌+◌, ◌≤◌};
-ghost use Rattle.link.specs.Packets.{slots, offer_bytes_lem, bulk_bytes_lem, is_mat_lem, carried, begun, begun_file, told, after};
+ghost use Rattle.std.specs.Prelude.{◌≡◌, ℕ, ◌+◌, ◌≤◌, cond, Some, None};
+ghost use Rattle.link.specs.Packets.{slots, bulk_bytes_lem, is_mat_lem, carried, begun, begun_file, told, after};
 ghost use Rattle.link.specs.Pieces.{piece_in, seen};
 
 use crate::state::{Air, Bulk, Mat, Packet, Sent};
@@ -14,19 +14,15 @@ pub(crate) fn slots(bytes: u16) -> u32
     u32::from(bytes).div_ceil(32)
 }
 
-// Whether an offer may have so many bytes.
-pub(crate) fn offer_bytes(bytes: u32) -> bool
-    ensures { result ≡ offer_bytes_lem bytes }
-{
-    (1..=8160).contains(&bytes)
-}
-
-// Whether a bulk packet may have so many bytes on a link whose longest packet has so many slots.
-pub(crate) fn bulk_bytes(longest: u32, bytes: u32) -> bool
+// A packet's bytes, if there are any and at most those of `longest` slots.
+pub(crate) fn packet_bytes(longest: u32, bytes: u32) -> Option<u16>
     requires { longest ≤ 255 }
-    ensures { result ≡ bulk_bytes_lem longest bytes }
+    ensures { result ≡ cond (bulk_bytes_lem longest bytes) (Some bytes) None }
 {
-    (1..=32 * longest).contains(&bytes)
+    if !(1..=32 * longest).contains(&bytes) {
+        return None;
+    }
+    Some(bytes as u16)
 }
 
 // Whether the number is a mat's: 0 is none.

@@ -8,7 +8,7 @@ ghost use Rattle.link.specs.Pieces.{Pieces, seen};
 ghost use Rattle.link.specs.Sending.{admitted, Waits, Offers, Bulks};
 ghost use Rattle.link.specs.Ticking.{Begins, quiet, passed, Ticks};
 
-use crate::packets::{bulk_bytes, is_mat, offer_bytes, slots};
+use crate::packets::{is_mat, packet_bytes, slots};
 use crate::state::{Air, Bulk, Link, Mat, Packet, Phase, Sent};
 use refusals::Refusal;
 use traffic::{Row, Traffic};
@@ -55,7 +55,9 @@ impl<'a, K: Traffic> Link<'a, K> {
         ensures lent { RowsAndWaiting self.old self.new }
     {
         self.opened()?;
-        if !is_mat(mat) || !offer_bytes(bytes) {
+        // whatever the link's longest packet is
+        let bytes = packet_bytes(255, bytes).ok_or(Refusal::Limits)?;
+        if !is_mat(mat) {
             return Err(Refusal::Limits);
         }
         let i = self.row_of(mat).ok_or(Refusal::NoSuchRow)?;
@@ -63,7 +65,6 @@ impl<'a, K: Traffic> Link<'a, K> {
         if record.phase != Phase::Live {
             return Err(Refusal::NoSuchRow);
         }
-        let bytes = bytes as u16;
         let (stepped, due) = admitted(row, self.longest, self.clock, slots(bytes)).ok_or(
             Refusal::Unlawful,
         )?;
@@ -85,16 +86,11 @@ impl<'a, K: Traffic> Link<'a, K> {
         ensures lent { NothingLent self.old self.new }
     {
         self.opened()?;
-        if !bulk_bytes(self.longest, bytes) {
-            return Err(Refusal::Limits);
-        }
+        let bytes = packet_bytes(self.longest, bytes).ok_or(Refusal::Limits)?;
         if self.bulk.is_some() {
             return Err(Refusal::Full);
         }
-        self.bulk = Some(Bulk {
-            place,
-            bytes: bytes as u16,
-        });
+        self.bulk = Some(Bulk { place, bytes });
         Ok(())
     }
 
