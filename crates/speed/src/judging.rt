@@ -33,13 +33,10 @@ pub fn refused(rt: &HostRuntime, times: u32) -> io::Result<()> {
     let mut places = [Packet::default(); 256];
     let mut link = Link::open(0, 24, &mut rows, &mut places);
     let kinds = dense(rt.alloc())?;
-    let mut granted = 0u8;
-    for kind in &kinds {
-        let mat = granted.wrapping_add(1);
-        if link.join(mat, *kind).is_ok() {
-            granted = mat;
-        }
-    }
+    let granted = (1..33u8)
+        .zip(&kinds)
+        .filter(|(mat, kind)| link.join(*mat, **kind).is_ok())
+        .count();
     let (point, count) = ask(&mut link, Kind::bucket(1260, 1, 6, 40320), times);
     println!(rt; "refused: {times} holds beside {granted} channels, point {point}, count {count}")
 }
