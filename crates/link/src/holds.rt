@@ -59,8 +59,7 @@ impl<'a, K: Traffic> Link<'a, K> {
         if hold.link != self.name {
             return Err(Refusal::NoSuchRow);
         }
-        self.row_held(hold.mat, hold.serial)
-            .ok_or(Refusal::NoSuchRow)
+        self.row_held(hold).ok_or(Refusal::NoSuchRow)
     }
 
     // Makes the held row of this hold live; refused, it gives the hold back.

@@ -91,11 +91,13 @@ impl<'a, K: Traffic> Link<'a, K> {
     }
 
     // The place of the held row of a hold.
-    pub(crate) fn row_held(&self, mat: Mat, serial: u32) -> Option<usize>
-        ensures found { result ≡ find (held_of mat serial) (model self.now) }
+    pub(crate) fn row_held(&self, hold: &Hold) -> Option<usize>
+        ensures found { result ≡ find (held_of hold.now.mat hold.now.serial) (model self.now) }
         ensures within { IfSome result (λ i. (i < 32) × (i < length self.now.rows.now)) }
     {
-        self.find(|row| row.mat == mat && row.serial == serial && row.phase == Phase::Held)
+        self.find(|row| {
+            row.mat == hold.mat && row.serial == hold.serial && row.phase == Phase::Held
+        })
     }
 
     // A copy of the row at a place that a search found. A place is a plain number here and below: it indexes two arrays, of which one is lent,
