@@ -1,18 +1,13 @@
 -- What is printed: a letter and numbers, parted by single blanks.
 use Rattle.std.specs.Prelude.{ℕ, cond, List, [], ◌∷◌, Ok, Err, Result, ◌==◌}
 use Rattle.traffic.specs.declared.mixture.Mixture.TheVariants.{First, Second}
-use Rattle.refusals.specs.Refusals.{number, values, answered}
+use Rattle.refusals.specs.Refusals.{number, values, answered, point_and_count}
 use Rattle.refusals.specs.declared.Refusal.{Refusal}
 use Rattle.refusals.specs.declared.Refusal.TheVariants.{Limits}
 use Rattle.plan.specs.Kinds.{Kind}
 use Rattle.plan.specs.Lines.{line}
 use Rattle.lines.specs.declared.Line.{Line}
 use Rattle.lines.specs.declared.Line.TheVariants.{Malformed, Opened, Spaced, Bucket, Offered, Bulk, Released, Ended, Stopped, Least}
-
--- the failing point and how many points were taken, each 0 where there is none
-abbrev pub point_and_count : Result ℕ Refusal → ℕ × ℕ
-point_and_count (Ok count) = (0, count)
-point_and_count (Err e) = values e
 
 -- the least allowance and the point that forbids one less; refused, 0 and the refusal's point
 abbrev pub least_values : Result (ℕ × ℕ) Refusal → ℕ × ℕ

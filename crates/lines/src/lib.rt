@@ -2,14 +2,14 @@
 #![tactic(auto)]
 
 ghost use Rattle.std.specs.Prelude.{◌≡◌, Some, IfOk};
-ghost use Rattle.lines.specs.Lines.{point_and_count, least_values, printed, channel_line_lem, least_line_lem};
+ghost use Rattle.lines.specs.Lines.{least_values, printed, channel_line_lem, least_line_lem};
 ghost use Rattle.lines.specs.Texts.{Refused, Told, TellsBy};
 
 pub mod cases;
 pub mod replies;
 
 use plan::{Channel, Fault, Kind, Plan, read};
-use refusals::{Refusal, answered};
+use refusals::{Refusal, answered, point_and_count};
 use std::alloc::{AllocError, Global};
 use std::fmt;
 
@@ -113,13 +113,6 @@ fn refused(heap: Global, fault: Fault) -> Result<Vec<Line>, AllocError>
         }
         Fault::NoMemory => Err(AllocError),
     }
-}
-
-// The failing point (0 if none fails) and how many points were taken.
-fn point_and_count(answer: Result<u32, Refusal>) -> (u32, u32)
-    ensures { result ≡ point_and_count answer }
-{
-    answer.map_or_else(|refusal| refusal.values(), |count| (0, count))
 }
 
 // The least allowance (0 where it is refused) and the point that forbids one less.

@@ -50,3 +50,8 @@ decided (Err unfit) = Err (refusal_of unfit)
 abbrev pub answered : {U : Type 0} → Result U Refusal → ℕ
 answered (Ok u) = 0
 answered (Err e) = number e
+
+-- the failing point and how many points were taken, each 0 where there is none
+abbrev pub point_and_count : Result ℕ Refusal → ℕ × ℕ
+point_and_count (Ok count) = (0, count)
+point_and_count (Err e) = values e

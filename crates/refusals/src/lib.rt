@@ -2,7 +2,7 @@
 #![tactic(auto)]
 
 ghost use Rattle.std.specs.Prelude.{◌≡◌};
-ghost use Rattle.refusals.specs.Refusals.{number, values, refusal_of, answered};
+ghost use Rattle.refusals.specs.Refusals.{number, values, refusal_of, answered, point_and_count};
 
 use verdict::Unfit;
 
@@ -85,4 +85,11 @@ pub fn answered<T: Drop>(answer: Result<T, Refusal>) -> u32
         Ok(_) => 0,
         Err(refusal) => refusal.number(),
     }
+}
+
+// The failing point (0 if none fails) and how many points were taken.
+pub fn point_and_count(answer: Result<u32, Refusal>) -> (u32, u32)
+    ensures { result ≡ point_and_count answer }
+{
+    answer.map_or_else(|refusal| refusal.values(), |count| (0, count))
 }
