@@ -15,6 +15,14 @@ pub fn spaced(period: u32, longest: u32, allowance: u32) -> Spaced {
     }
 }
 
+// A row to lend, whatever is in it.
+pub(crate) fn row() -> Row<Spaced, Option<u32>> {
+    Row {
+        kind: spaced(20, 5, 9),
+        state: None,
+    }
+}
+
 // Prints what so many ticks carried.
 fn ticks<K: Traffic>(rt: &HostRuntime, link: &mut Link<'_, K>, n: u32) -> io::Result<()> {
     for _ in 0..n {
@@ -49,10 +57,7 @@ pub fn run(rt: &HostRuntime) -> io::Result<()> {
 }
 
 fn with_bulk(rt: &HostRuntime, bytes: u32) -> io::Result<()> {
-    let mut rows = [Row {
-        kind: spaced(20, 5, 9),
-        state: None,
-    }; 4];
+    let mut rows = [row(); 4];
     let mut places = [Packet::default(); 8];
     let mut link = Link::open(0, 5, &mut rows, &mut places);
     joined(rt, &mut link, 1, spaced(20, 5, 9))?;

@@ -1,15 +1,11 @@
 // The end of the clock: 2,000,000,000 ticks on an idle link, and one more.
-use crate::course::spaced;
+use crate::course::row;
 use link::state::{Link, Packet};
 use refusals::answered;
 use std::io;
-use traffic::Row;
 
 pub fn run(rt: &HostRuntime) -> io::Result<()> {
-    let mut rows = [Row {
-        kind: spaced(20, 5, 9),
-        state: None,
-    }; 32];
+    let mut rows = [row(); 32];
     let mut places = [Packet::default(); 256];
     let mut link = Link::open(0, 5, &mut rows, &mut places);
     for _ in 0..2_000_000_000u32 {

@@ -1,10 +1,9 @@
 // Channels joined one after the other at their least allowances, on a link whose longest packet has 4 slots.
 use crate::answers::Told;
-use crate::course::spaced;
+use crate::course::{row, spaced};
 use link::state::{Link, Mat, Packet};
 use refusals::answered;
 use std::io;
-use traffic::Row;
 use traffic::spaced::Spaced;
 
 // The least allowance and the point that forbids one slot less; then the answers to holds with one slot less, and with the least.
@@ -30,10 +29,7 @@ fn shortest(
 }
 
 pub fn run(rt: &HostRuntime) -> io::Result<()> {
-    let mut rows = [Row {
-        kind: spaced(20, 5, 9),
-        state: None,
-    }; 4];
+    let mut rows = [row(); 4];
     let mut places = [Packet::default(); 8];
     let mut link = Link::open(0, 4, &mut rows, &mut places);
     shortest(rt, &mut link, 1, 10, 2)?;

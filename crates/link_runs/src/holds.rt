@@ -1,9 +1,8 @@
 // Holds that no held row has: of another link, stale, of a released row.
-use crate::course::spaced;
+use crate::course::{row, spaced};
 use link::state::{Hold, Link, Mat, Packet};
 use refusals::{Refusal, answered};
 use std::io;
-use traffic::Row;
 use traffic::spaced::Spaced;
 
 // Confirms the hold; where it is refused, cancels the hold that came back. The two answers.
@@ -56,14 +55,10 @@ fn released(rt: &HostRuntime, link: &mut Link<'_, Spaced>) -> io::Result<()> {
 }
 
 pub fn run(rt: &HostRuntime) -> io::Result<()> {
-    let row = Row {
-        kind: spaced(20, 5, 9),
-        state: None,
-    };
-    let mut rows = [row; 2];
+    let mut rows = [row(); 2];
     let mut places = [Packet::default(); 2];
     let mut here = Link::open(1, 5, &mut rows, &mut places);
-    let mut more_rows = [row; 2];
+    let mut more_rows = [row(); 2];
     let mut more_places = [Packet::default(); 2];
     let mut there = Link::open(2, 5, &mut more_rows, &mut more_places);
     foreign(rt, &mut here, &mut there)?;

@@ -1,9 +1,8 @@
 // The bytes that ticks carried, of the mats' memory and of the files', and why none are handed out.
-use crate::course::spaced;
+use crate::course::{row, spaced};
 use link::state::{Link, Packet};
 use refusals::answered;
 use std::io;
-use traffic::Row;
 use traffic::spaced::Spaced;
 
 // Prints the first byte of the piece and how many it has, or the refusal's number.
@@ -53,10 +52,7 @@ pub fn run(rt: &HostRuntime) -> io::Result<()> {
     fill(&mut mats, 0);
     let mut files = [0u8; 41];
     fill(&mut files, 100);
-    let mut rows = [Row {
-        kind: spaced(20, 5, 9),
-        state: None,
-    }; 2];
+    let mut rows = [row(); 2];
     let mut places = [Packet::default(); 4];
     let mut link = Link::open(0, 5, &mut rows, &mut places);
     let joined = answered(link.join(1, spaced(20, 5, 9)));
