@@ -20,6 +20,7 @@ use rows::{Picture, Point};
 use std::alloc::{AllocError, Global};
 use std::io;
 use std::io::Read;
+use std::iter::successors;
 use traffic::Curve;
 use traffic::bucket::Bucket;
 use traffic::mixture::Mixture;
@@ -29,7 +30,7 @@ use traffic::spaced::Spaced;
 const LETTERS: [u8; 32] = *b"ABCDEFGHIJKLMNOPQRSTUVWXYZabcdef";
 
 // How many points are shown at most.
-const MOST_POINTS: u32 = 40;
+const MOST_POINTS: usize = 40;
 
 // How many marks a bar has at most.
 const LONGEST_BAR: u64 = 40;
@@ -72,15 +73,13 @@ fn print_points<K: Curve, S: Copy>(
 ) -> io::Result<()> {
     println!(rt; "\n    t demand  slack  rises")?;
     let end = 2 * picture.largest_allowance() + 1;
-    let mut after = 0;
-    for _ in 0..MOST_POINTS {
-        let Some(Point { t, demand, slack }) = picture.point_after(after, end) else {
-            break;
-        };
+    let points = successors(picture.point_after(0, end), |point| {
+        picture.point_after(point.t, end)
+    });
+    for Point { t, demand, slack } in points.take(MOST_POINTS) {
         let marks = marks(rt.alloc(), picture, t)?;
         let bar = bar(rt.alloc(), slack)?;
         println!(rt; "{t:>5} {demand:>6} {slack:>6}  {marks} {bar}")?;
-        after = t;
     }
     Ok(())
 }
