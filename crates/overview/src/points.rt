@@ -69,6 +69,7 @@ impl<'a, K: Curve, S: Copy> Picture<'a, K, S> {
         ensures { Tightest (curves K.Curve.numbers (channels self.now)) self.now.longest result }
     {
         let end = self.largest_allowance() + FRAME;
+        // a `while`, since `min_by_key` asks for an end, and `successors` has none by its contract
         let mut t = 0;
         let mut least = None;
         while let Some(point) = self.point_after(t, end) {
