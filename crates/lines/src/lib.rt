@@ -7,6 +7,7 @@ ghost use Rattle.lines.specs.Texts.{Refused, Told, TellsBy};
 
 pub mod cases;
 pub mod replies;
+mod texts;
 
 use plan::{Channel, Fault, Kind, Plan, read};
 use refusals::{Refusal, answered, point_and_count};

@@ -1,20 +1,31 @@
 // Answering a text: its lines are written out.
-ghost use Rattle.std.specs.Prelude.{◌≡◌, ◌∷◌, Ok, OnOk, IfSome};
+ghost use Rattle.std.specs.Prelude.{◌≡◌, [], ◌∷◌, ◌++◌, Ok, OnOk, IfSome};
 ghost use Rattle.std.specs.Fn.{FnOnceReturnsAt};
 ghost use Rattle.std.specs.Io.KnownBytes.{Appends};
+ghost use Rattle.lines.specs.Lines.{printed};
 ghost use Rattle.lines.specs.Replies.{written};
 
 use crate::Line;
+use crate::texts::LineText;
 use std::alloc::{AllocError, Global};
 use std::io;
 use std::io::{Read, Write};
+
+// Writes a line with its line break, by one write: so lines of several programs that share a pipe or a file stay whole.
+pub fn write_line<W: Write>(output: &mut W, line: &Line) -> io::Result<()>
+    ensures { OnOk result (Appends (W.contents output.old) (W.contents output.new) (printed line.now ++ 10 ∷ [])) }
+{
+    let mut text = LineText::new();
+    writeln!(text, "{line}")?;
+    output.write_all(text.as_slice())
+}
 
 // Writes lines, each with a line break.
 fn write_lines<W: Write>(output: &mut W, lines: &[Line]) -> io::Result<()>
     ensures { OnOk result (Appends (W.contents output.old) (W.contents output.new) (written lines.now)) }
 {
     for line in lines {
-        writeln!(output, "{line}")?;
+        write_line(output, line)?;
     }
     Ok(())
 }
@@ -44,7 +55,7 @@ pub fn show<W: Write, F: FnOnce(&[u8]) -> Result<Vec<Line>, AllocError>>(
     requires { F.IsAlwaysCallable answer }
     ensures { OnOk result ((lines : _) × FnOnceReturnsAt F.FnOnce answer text.now (Ok lines) × Appends (W.contents output.old) (W.contents output.new) (45 ∷ 45 ∷ 10 ∷ written lines.items)) }
 {
-    writeln!(output, "--")?;
+    output.write_all(b"--\n")?;
     let lines = answer(text)?;
     write_lines(output, &lines)
 }
