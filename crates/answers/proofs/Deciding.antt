@@ -33,7 +33,7 @@ still_few p mats ks c (Ok count) few decided =
 
 module _ {Shows : ℕ → List Kind → Channel → Decision → Line → Type 0} {p : ℕ} where
   -- no more channels are granted than there are rows
-  few_granted : {cs : List Channel} {mats : List ℕ} {ks : List Kind} {ls : List Line} → Decisions Shows p cs mats ks ls → length ks ≤ 32
+  pub few_granted : {cs : List Channel} {mats : List ℕ} {ks : List Kind} {ls : List Line} → Decisions Shows p cs mats ks ls → length ks ≤ 32
   few_granted none = omega arith
   few_granted (one_more {mats} {kinds} h c d l decided shown) = still_few p mats kinds c d (few_granted h) decided
 
@@ -57,12 +57,12 @@ module _ (Shows : ℕ → List Kind → Channel → Decision → Line → Type 0
     is = sym (append-nil first);
   }
 
-  pub deciding_more : (cs : List Channel) (i : ℕ) (c : Channel) (d : Decision) (l : Line) (q : ℕ) (mats mats' : List ℕ) (ks ks' : List Kind) (ls ls' : List Line) → i < length cs →
-      Deciding Shows p (take i cs) mats ks first ls → q ≡ p → Decided q mats ks (get_or cs i c) d → Shows p ks (get_or cs i c) d l →
+  pub deciding_more : (cs : List Channel) (i : ℕ) (c : Channel) (d : Decision) (l : Line) (mats mats' : List ℕ) (ks ks' : List Kind) (ls ls' : List Line) → i < length cs →
+      Deciding Shows p (take i cs) mats ks first ls → Decided p mats ks (get_or cs i c) d → Shows p ks (get_or cs i c) d l →
       mats' ≡ counted d (get_or cs i c).mat mats → ks' ≡ counted d (get_or cs i c).kind ks → ls' ≡ ls ++ l ∷ [] → Deciding Shows p (take (i + 1) cs) mats' ks' first ls'
-  deciding_more cs i c d l q mats mats' ks ks' ls ls' inside before same decided shown em ek el =
+  deciding_more cs i c d l mats mats' ks ks' ls ls' inside before decided shown em ek el =
       let x = get_or cs i c in
-      let step = one_more before.so_far x d l (subst (λ n. Decided n mats ks x d) same decided) shown in
+      let step = one_more before.so_far x d l decided shown in
       record {
         more = before.more ++ l ∷ [];
         so_far = rw (em, ek) (subst (λ ys. Decisions Shows p ys (counted d x.mat mats) (counted d x.kind ks) (before.more ++ l ∷ [])) (sym (take_more cs i c inside)) step);

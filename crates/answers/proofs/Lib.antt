@@ -1,3 +1,4 @@
 pub mod Deciding
 pub mod Rows
 pub mod Telling
+pub mod Writing

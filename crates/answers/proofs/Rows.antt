@@ -43,12 +43,11 @@ least_tells p rs c r l n size ks count sized same least is =
     (r, subst (λ k. verdict.Least kind_numbers kind_limits kind_dated p k (map (λ r. r.kind) (take 32 rs)) c.kind r) (sized ∙ sym count) (subst (λ xs. verdict.Least kind_numbers kind_limits kind_dated p size xs c.kind r) same least), is)
 
 -- and so beside those granted so far, which are no more
-pub least_shown : (p : ℕ) (ks : List Kind) (c d : Channel) (l : Line) (g : Granted) → length ks ≤ 32 → g.longest ≡ p → kinds g ≡ ks → d ≡ c → LeastTold g.longest (vec_len g.rows) (listed g) d l → LeastTold p (length ks) ks c l
-least_shown p ks c d l g few longest same channel told =
+pub least_shown : (p : ℕ) (ks : List Kind) (c d : Channel) (l : Line) (g : Granted) → length ks ≤ 32 → kinds g ≡ ks → d ≡ c → LeastTold p (vec_len g.rows) (listed g) d l → LeastTold p (length ks) ks c l
+least_shown p ks c d l g few same channel told =
     let rs = vec_items g.rows in
     let lengths : length ks ≡ length rs = sym (ap length same) ∙ length-map rs (λ r. r.kind) in
     let all : listed g ≡ ks = ap (λ (ys : List (Row Kind ℕ)). map (λ r. r.kind) ys) (take_all 32 rs (omega arith)) ∙ same in
     subst (λ (x : Channel). LeastTold p (length ks) ks x l) channel
-    (subst (λ n. LeastTold n (length ks) ks d l) longest
-    (subst (λ n. LeastTold g.longest n ks d l) (g.rows.ok.0 ∙ sym lengths)
-    (subst (λ xs. LeastTold g.longest (vec_len g.rows) xs d l) all told)))
+    (subst (λ n. LeastTold p n ks d l) (g.rows.ok.0 ∙ sym lengths)
+    (subst (λ xs. LeastTold p (vec_len g.rows) xs d l) all told))

@@ -35,6 +35,6 @@ LeastTold p rows ks c l =
     (r : Result (ℕ × ℕ) Unfit) × verdict.Least kind_numbers kind_limits kind_dated p rows ks c.kind r × (l ≡ least_line_lem c.mat (found r))
 
 -- a line that this may show of a channel that was decided with those granted before
-abbrev pub Shown : {F : Type 0} → Shared F (Bor Granted × (Bor Channel × (Decision × Unit {0}))) Line → F → ℕ → List Kind → Channel → Decision → Line → Type 0
+abbrev pub Shown : {F : Type 0} → Shared F (ℕ × (Bor Granted × (Bor Channel × (Decision × Unit {0})))) Line → F → ℕ → List Kind → Channel → Decision → Line → Type 0
 Shown g f p ks c d l =
-    (x : Bor Granted) × (y : Bor Channel) × FnReturns g f (x, (y, (d, tt))) l × (x.now.longest ≡ p) × (kinds x.now ≡ ks) × (y.now ≡ c)
+    (x : Bor Granted) × (y : Bor Channel) × FnReturns g f (p, (x, (y, (d, tt)))) l × (kinds x.now ≡ ks) × (y.now ≡ c)

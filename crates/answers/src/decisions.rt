@@ -15,22 +15,19 @@ use verdict::channels::Channels;
 // What becomes of a channel: how many points were taken where the air can carry it with those granted before, or why it is refused.
 pub type Decision = Result<u32, Refusal>;
 
-// The channels granted so far on a link, in the order of their grants: each row's state is the mat.
+// The channels granted so far, in the order of their grants: each row's state is the mat.
 #[derive(Drop)]
 pub struct Granted {
-    longest: u32,
     rows: Vec<Row<Kind, u8>>,
 }
 
 impl Granted {
-    // None yet; the link's longest packet has so many slots.
-    pub fn new(heap: Global, longest: u32) -> Granted
-        ensures longest { result.longest ≡ longest }
+    // None yet.
+    pub fn new(heap: Global) -> Granted
         ensures mats { mats result ≡ [] }
         ensures kinds { kinds result ≡ [] }
     {
         Granted {
-            longest,
             rows: Vec::new(heap),
         }
     }
@@ -44,7 +41,6 @@ impl Granted {
 
     // A granted channel is counted from then on.
     pub fn count(&mut self, channel: &Channel, decision: Decision) -> Result<(), AllocError>
-        ensures longest { self.new.longest ≡ self.old.longest }
         ensures mats { OnOk result (mats self.new ≡ counted decision channel.now.mat (mats self.old)) }
         ensures kinds { OnOk result (kinds self.new ≡ counted decision channel.now.kind (kinds self.old)) }
     {
@@ -58,10 +54,10 @@ impl Granted {
     }
 
     // The refusal that comes before any judging: the smallest number that applies.
-    fn check(&self, channel: &Channel) -> Result<(), Refusal>
-        ensures { result ≡ early self.now.longest (mats self.now) (vec_len self.now.rows) channel.now }
+    fn check(&self, longest: u32, channel: &Channel) -> Result<(), Refusal>
+        ensures { result ≡ early longest (mats self.now) (vec_len self.now.rows) channel.now }
     {
-        if channel.mat == 0 || !channel.kind.within(self.longest) {
+        if channel.mat == 0 || !channel.kind.within(longest) {
             return Err(Refusal::Limits);
         }
         if has_row(&self.rows, channel.mat) {
@@ -73,20 +69,21 @@ impl Granted {
         Ok(())
     }
 
-    // What becomes of a channel, given those granted so far.
-    pub fn decide(&self, channel: &Channel) -> Decision
-        ensures { Decided self.now.longest (mats self.now) (kinds self.now) channel.now result }
+    // What becomes of a channel on a link whose longest packet has so many slots, given those granted so far.
+    // The longest packet is an argument and no field: the same channels can be asked of under several.
+    pub fn decide(&self, longest: u32, channel: &Channel) -> Decision
+        ensures { Decided longest (mats self.now) (kinds self.now) channel.now result }
     {
-        self.check(channel)?;
+        self.check(longest, channel)?;
         let together = Channels::all(&self.rows).with(channel.kind);
-        judge(&together, self.longest).map_err(Refusal::from)
+        judge(&together, longest).map_err(Refusal::from)
     }
 
     // The least allowance with which a channel would pass beside those granted so far; its own is not looked at.
-    pub fn least(&self, channel: &Channel) -> Line
-        ensures { LeastTold self.now.longest (vec_len self.now.rows) (listed self.now) channel.now result }
+    pub fn least(&self, longest: u32, channel: &Channel) -> Line
+        ensures { LeastTold longest (vec_len self.now.rows) (listed self.now) channel.now result }
     {
-        let found = least(&Channels::all(&self.rows), channel.kind, self.longest);
+        let found = least(&Channels::all(&self.rows), channel.kind, longest);
         Line::of_least(channel.mat, found.map_err(Refusal::from))
     }
 }

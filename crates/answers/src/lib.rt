@@ -7,6 +7,7 @@ ghost use Rattle.answers.specs.Granted.{Shown};
 ghost use Rattle.plan.specs.Format.{script};
 
 pub mod decisions;
+pub mod leasts;
 
 use decisions::{Decision, Granted};
 use lines::{Line, tell_text};
@@ -34,7 +35,7 @@ fn tell_decisions(heap: Global, plan: &Plan) -> Result<Vec<Line>, AllocError>
     tell(
         heap,
         plan,
-        |_, channel, decision| Line::of_channel(channel, decision),
+        |_, _, channel, decision| Line::of_channel(channel, decision),
     )
 }
 
@@ -42,7 +43,11 @@ fn tell_decisions(heap: Global, plan: &Plan) -> Result<Vec<Line>, AllocError>
 fn tell_leasts(heap: Global, plan: &Plan) -> Result<Vec<Line>, AllocError>
     ensures { IfOk result (λ ls. LeastsTold (script plan.now) ls.items) }
 {
-    tell(heap, plan, |granted, channel, _| granted.least(channel))
+    tell(
+        heap,
+        plan,
+        |longest, granted, channel, _| granted.least(longest, channel),
+    )
 }
 
 // Whether a link opens whose longest packet has so many slots.
@@ -53,7 +58,7 @@ fn opens(longest: u32) -> bool
 }
 
 // The lines of a plan: how the link opens and, where it opens, a line that this shows of each channel, decided with those granted before.
-fn tell<F: Fn(&Granted, &Channel, Decision) -> Line>(
+fn tell<F: Fn(u32, &Granted, &Channel, Decision) -> Line>(
     heap: Global,
     plan: &Plan,
     line: F,
@@ -66,10 +71,10 @@ fn tell<F: Fn(&Granted, &Channel, Decision) -> Line>(
     if !opened {
         return Ok(lines);
     }
-    let mut granted = Granted::new(heap, plan.longest);
+    let mut granted = Granted::new(heap);
     for channel in &plan.channels {
-        let decision = granted.decide(channel);
-        lines.push(line(&granted, channel, decision))?;
+        let decision = granted.decide(plan.longest, channel);
+        lines.push(line(plan.longest, &granted, channel, decision))?;
         granted.count(channel, decision)?;
     }
     Ok(lines)

@@ -1,17 +1,10 @@
 // Reads a plan from standard input and prints, for each of its channels in turn, the least allowance that would do beside those
-// granted before it.
+// granted before it, as soon as it is found.
 #![tactic(auto)]
 
-use answers::least;
-use lines::replies::reply;
+use answers::leasts::reply_leasts;
 use std::io;
 
 fn main(rt: HostRuntime) -> io::Result<()> {
-    let mut output = io::writer(&rt);
-    reply(
-        rt.alloc(),
-        &mut rt.stdin(),
-        &mut output,
-        |text| least(rt.alloc(), text),
-    )
+    reply_leasts(rt.alloc(), &mut rt.stdin(), &mut io::writer(&rt))
 }

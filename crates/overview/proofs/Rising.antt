@@ -11,7 +11,7 @@ use Rattle.verdict.specs.Members.{kinds}
 use Rattle.verdict.proofs.FinitePoints.{curves_never_fall}
 
 -- the smaller of two, where there are two
-abbrev sooner : Option ℕ → Option ℕ → Option ℕ
+abbrev pub sooner : Option ℕ → Option ℕ → Option ℕ
 sooner None b = b
 sooner (Some x) None = Some x
 sooner (Some x) (Some y) = Some (min x y)
@@ -32,7 +32,7 @@ module _ (F G sum : ℕ → ℕ) (up-F : (t u : ℕ) → t ≤ u → F t ≤ F u
   right_rises v some rise = omega (arith, sum_before v some, is v, before_later F v some, up-F (v - 1) v (omega arith))
 
   -- the sum's next rise is the sooner of the two
-  sooner_rise : (t : ℕ) (a b : Option ℕ) → NextRise F t a → NextRise G t b → NextRise sum t (sooner a b)
+  pub sooner_rise : (t : ℕ) (a b : Option ℕ) → NextRise F t a → NextRise G t b → NextRise sum t (sooner a b)
   sooner_rise t None None f g = λ v more rise. ⊎_elim (f v more) (g v more) (one_rises v (omega arith) rise)
   sooner_rise t None (Some y) f g =
       (g.0, right_rises y (omega (arith, g.0)) g.1, λ v more less rise. ⊎_elim (f v more) (g.2 v more less) (one_rises v (omega arith) rise))

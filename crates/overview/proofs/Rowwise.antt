@@ -1,5 +1,5 @@
 -- The channels of rows that stand together, row by row.
-use Rattle.std.proofs.Common.{◌≡◌, ℕ, ◌<◌, ◌≤◌, max, Bool, true, List, [], ◌∷◌, map, length, get_or, sum_by, Bor, Iter, sym, refl, subst, ⊎_elim, arith}
+use Rattle.std.proofs.Common.{◌≡◌, ℕ, zero, suc, ◌<◌, ◌≤◌, max, Bool, true, List, [], ◌∷◌, map, length, get_or, take, sum_by, Bor, Iter, sym, refl, subst, ⊎_elim, arith}
 use Rattle.std.specs.Iterator.{CallableAtEachTurn}
 use Rattle.std.specs.List.{AllByRecursion, fold, reduce}
 use Rattle.std.specs.Option.{unwrap_or}
@@ -55,6 +55,15 @@ module _ {K S : Type 0} (m : K → Numbers) (limits : K → ℕ → Bool) (p : �
   -- what the channels ask for within t is no more than t
   pub demand_small : (t : ℕ) → curves m (kinds rs) t ≤ t
   demand_small t = ⊎_elim (λ some. omega (arith, together.passes.demand_fits t some)) (λ nothing. omega arith) (cases_lt 0 (curves m (kinds rs) t))
+
+  front_most : (f : K → ℕ) (xs : List (Row K S)) (i : ℕ) → total f (kinds (take i xs)) ≤ total f (kinds xs)
+  front_most f xs zero = omega arith
+  front_most f [] (suc i) = omega arith
+  front_most f (x ∷ xs) (suc i) = omega (arith, front_most f xs i)
+
+  -- nor is what the first rows ask for
+  pub front_fits : (i t : ℕ) → curves m (kinds (take i rs)) t ≤ t
+  front_fits i t = omega (arith, demand_small t, front_most (λ k. (m k).curve t) rs i)
 
 pub allowances_small : {K : Type 0} (m : K → Numbers) (p : ℕ) (ks : List K) → AllByRecursion (λ k. CurveLaws p (m k)) ks → largest (λ k. (m k).allowance) ks ≤ 40320
 allowances_small m p [] laws = omega arith

@@ -125,10 +125,10 @@ fn take_channels(rt: &HostRuntime, longest: u32, channels: &[Channel]) -> io::Re
     requires most { longest ≤ 255 }
     ensures { IfOk result (λ granted. Stands kind_numbers kind_limits longest (kinds granted)) }
 {
-    let mut granted = Granted::new(rt.alloc(), longest);
+    let mut granted = Granted::new(rt.alloc());
     for channel in channels {
         let place = granted.rows().len();
-        let decision = granted.decide(channel);
+        let decision = granted.decide(longest, channel);
         granted.count(channel, decision)?;
         match decision {
             Ok(_) => print_channel(rt, char::from(LETTERS[place]), channel)?,

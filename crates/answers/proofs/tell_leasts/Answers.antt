@@ -7,4 +7,4 @@ use Rattle.answers.proofs.Telling.{plan_told}
 use Rattle.answers.proofs.tell_leasts.Goals as goal
 
 pub returns : goal.returns
-returns c = plan_told LeastShown (λ p ks channel d l few (x, y, returned, longest, same, at). let told : LeastTold x.now.longest (vec_len x.now.rows) (listed x.now) y.now l = search rules in least_shown p ks channel y.now l x.now few longest same at told) (script c.args.plan.now) vec_items c.tell.result c.tell.ensures
+returns c = plan_told LeastShown (λ p ks channel d l few (x, y, returned, same, at). let told : LeastTold p (vec_len x.now.rows) (listed x.now) y.now l = search rules in least_shown p ks channel y.now l x.now few same at told) (script c.args.plan.now) vec_items c.tell.result c.tell.ensures
