@@ -87,7 +87,10 @@ impl<'a, K: Traffic> Link<'a, K> {
         let (hold, count) = self.hold(mat, kind)?;
         match self.confirm(hold) {
             Ok(()) => Ok(count),
-            Err(_) => unreachable!(),
+            Err((refusal, back)) => {
+                let _ = self.cancel(back);
+                Err(refusal)
+            }
         }
     }
 

@@ -3,6 +3,7 @@ ghost use Rattle.std.specs.Prelude.{◌≡◌, ℕ, ◌+◌, ◌<◌, ◌≤◌,
 ghost use Rattle.link.specs.Rows.{blank, counts, counted, may_release_lem, changed, moved, releases, none_leaving};
 
 use crate::state::{Event, Mat, Phase, Record, Table};
+use std::array;
 
 impl Phase {
     // Whether a row in this phase is counted.
@@ -57,7 +58,7 @@ impl Table {
     pub(crate) fn counted(&self) -> [bool; 32]
         ensures { result ≡ map counted self.now.records }
     {
-        self.records.map(|record| record.phase.counts())
+        array::from_fn(|i| self.records[i].phase.counts())
     }
 
     // Moves one row, whose record is lent to be changed.
