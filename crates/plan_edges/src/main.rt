@@ -36,15 +36,18 @@ fn show(rt: &HostRuntime, name: &str, text: &[u8]) -> io::Result<()> {
     }
 }
 
-// The bytes that a text of the input stands for. A backslash at its end stands for itself.
+// The bytes that a text of the input stands for. A backslash at its end stands for nothing.
 fn unescaped(heap: Global, shown: &str) -> Result<Vec<u8>, AllocError> {
     let mut text = Vec::new(heap);
     let mut bytes = shown.bytes();
     while let Some(b) = bytes.next() {
-        text.push(match b {
-            b'\\' => bytes.next().map_or(b, byte_after_backslash),
-            _ => b,
-        })?;
+        let byte = match b {
+            b'\\' => bytes.next().map(byte_after_backslash),
+            _ => Some(b),
+        };
+        if let Some(byte) = byte {
+            text.push(byte)?;
+        }
     }
     Ok(text)
 }
