@@ -18,12 +18,12 @@ cut_other : (b : ℕ) (bs : List ℕ) → eqb b 10 ≡ false → cut (b ∷ bs) 
 cut_other b bs other = cond-false (eqb b 10) ([] ∷ cut bs) (onto_first b (cut bs)) other
 
 -- a line that is ended
-cut_line : (l rest : List ℕ) → Unbroken l → cut (l ++ (10 ∷ rest)) ≡ l ∷ cut rest
+pub cut_line : (l rest : List ℕ) → Unbroken l → cut (l ++ (10 ∷ rest)) ≡ l ∷ cut rest
 cut_line [] rest p = refl
 cut_line (b ∷ l) rest p = cut_other b (l ++ (10 ∷ rest)) p.0 ∙ ap (onto_first b) (cut_line l rest p.1)
 
 -- a last line that is not ended
-cut_last : (b : ℕ) (l : List ℕ) → Unbroken (b ∷ l) → cut (b ∷ l) ≡ (b ∷ l) ∷ []
+pub cut_last : (b : ℕ) (l : List ℕ) → Unbroken (b ∷ l) → cut (b ∷ l) ≡ (b ∷ l) ∷ []
 cut_last b [] p = cut_other b [] p.0
 cut_last b (c ∷ l) p = cut_other b (c ∷ l) p.0 ∙ ap (onto_first b) (cut_last c l p.1)
 

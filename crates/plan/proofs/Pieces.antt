@@ -1,5 +1,5 @@
 -- The fields of a line's tail are its pieces between blanks, after an empty first one.
-use Rattle.std.proofs.Common.{◌≡◌, ℕ, zero, suc, ◌<◌, eqb, List, [], ◌∷◌, ◌++◌, map, length, get_or, drop, decimal, Option, Some, None, Bor, sym, refl, ap, ◌∙◌, subst, append-nil, arith}
+use Rattle.std.proofs.Common.{◌≡◌, ℕ, zero, suc, ◌<◌, eqb, List, [], ◌∷◌, ◌++◌, map, length, get_or, drop, decimal, Option, Some, None, Bor, sym, refl, ap, ◌∙◌, subst, append_assoc, append-nil, arith}
 use Rattle.std.proofs.ByRecursion.{All-push}
 use Rattle.std.proofs.lemmas.List.{map_push, nil_from_length}
 use Rattle.std.proofs.lemmas.Iterator.{YieldsList}
@@ -37,6 +37,11 @@ joined_fields (n ∷ ns) = ap (λ l. 32 ∷ l) (joined_numbers n ns)
 pub fields_of_pieces : (tail ns : List ℕ) → [] ∷ map decimal ns ≡ pieces tail → fields ns ≡ tail
 fields_of_pieces tail ns e =
     sym (joined_fields ns) ∙ ap (join_with_byte 32) e ∙ join_with_byte-slice_split 32 tail
+
+pub fields_append : (ms ns : List ℕ) → fields (ms ++ ns) ≡ fields ms ++ fields ns
+fields_append [] ns = refl
+fields_append (m ∷ ms) ns =
+    ap (λ l. 32 ∷ (decimal m ++ l)) (fields_append ms ns) ∙ ap (λ l. 32 ∷ l) (sym (append_assoc (decimal m) (fields ms) (fields ns)))
 
 pub same_from_fields : (ms ns : List ℕ) → Numbers ms → Numbers ns → fields ms ≡ fields ns → ms ≡ ns
 same_from_fields ms ns p q e =

@@ -11,7 +11,7 @@ use Rattle.plan.specs.Steps.{BrokenAt, Lacks}
 use Rattle.plan.specs.declared.Call.{Call}
 use Rattle.plan.specs.declared.Call.TheVariants.{Bulk}
 use Rattle.plan.specs.declared.Channel.{Channel}
-use Rattle.plan.proofs.Breaks.{breaks, section_front}
+use Rattle.plan.proofs.Breaks.{Breaks, breaks, section_front}
 
 place_one : (s : Script) (i : ℕ) → i < 2 → (1, i) ≡ place s i
 place_one s i h = grind (arith, nat_tests)
@@ -33,7 +33,7 @@ front_shared (x ∷ front) rest (y ∷ w) e =
     (f.0, (cc), f.2)
 
 -- it is enough to look at the first line after those of a plan's beginning
-stops_after : (ls front rest more : List (List ℕ)) (s : Script) (at : ℕ × ℕ) → ls ≡ front ++ rest → InRange s → lines s ≡ front ++ more → at ≡ place s (length front) → ((q : Script) (v : List (List ℕ)) → InRange q → lines q ≡ front ++ v → take 1 rest ≡ take 1 v → ⊥) → StopsAt ls at
+pub stops_after : (ls front rest more : List (List ℕ)) (s : Script) (at : ℕ × ℕ) → ls ≡ front ++ rest → InRange s → lines s ≡ front ++ more → at ≡ place s (length front) → ((q : Script) (v : List (List ℕ)) → InRange q → lines q ≡ front ++ v → take 1 rest ≡ take 1 v → ⊥) → StopsAt ls at
 stops_after ls front rest more s at split fit same placed other = record {
   i = length front;
   s = s;
@@ -101,14 +101,16 @@ module _ {ls rest : List (List ℕ)} {p : ℕ} (opened : Opened ls p rest) where
       placed
       (λ q v fits e h. other q.channels q.calls v fits.channels fits.calls (ap (drop 2) e) h)
 
-  pub stops_in_channels : (k : ℕ) → BrokenAt channel_words channel_mats rest k → StopsAt ls (2, k)
-  stops_in_channels k broken =
-      let b = breaks channel_words channel_mats silent silent_fits rest k broken in
+  pub breaks_in_channels : (k : ℕ) → Breaks channel_words channel_mats rest k → StopsAt ls (2, k)
+  breaks_in_channels k b =
       let none = section call_words [] in
       stops_later b.front b.rest (b.more ++ none) b.xs [] (2, k) b.split b.fit (omega arith, tt)
       (ap (λ l. l ++ none) b.begins ∙ append_assoc b.front b.more none)
       (place_two (record { longest = p; channels = b.xs; calls = [] }) (suc (suc (length b.front))) k (omega (arith, b.at)) b.within)
       (λ ds js v fits_channels fits_calls e h. b.stops ds (section call_words js) v fits_channels e h)
+
+  pub stops_in_channels : (k : ℕ) → BrokenAt channel_words channel_mats rest k → StopsAt ls (2, k)
+  stops_in_channels k broken = breaks_in_channels k (breaks channel_words channel_mats silent silent_fits rest k broken)
 
   module _ (cs : List Channel) (after : List (List ℕ)) (read : FitSection channel_words channel_mats cs × (rest ≡ section channel_words cs ++ after)) where
     -- what follows the channels of a plan that agrees
@@ -117,9 +119,8 @@ module _ {ls rest : List (List ℕ)} {p : ℕ} (opened : Opened ls p rest) where
         append-nil (section call_words js)
         ∙ (section_front channel_words channel_mats ds cs (section call_words js) (front ++ v) fits.0 read.0.0 (e ∙ append_assoc (section channel_words cs) front v)).1
 
-    pub stops_in_calls : (k : ℕ) → BrokenAt call_words call_mats after k → StopsAt ls (3, k)
-    stops_in_calls k broken =
-        let b = breaks call_words call_mats (Bulk 0) ((omega arith, tt), tt) after k broken in
+    pub breaks_in_calls : (k : ℕ) → Breaks call_words call_mats after k → StopsAt ls (3, k)
+    breaks_in_calls k b =
         let cl = section channel_words cs in
         let long : length (cl ++ b.front) ≡ suc (length cs) + k = simp (length-append, length-map) (omega (arith, b.at)) in
         stops_later (cl ++ b.front) b.rest b.more cs b.xs (3, k)
@@ -127,6 +128,9 @@ module _ {ls rest : List (List ℕ)} {p : ℕ} (opened : Opened ls p rest) where
         (ap (λ l. cl ++ l) b.begins ∙ sym (append_assoc cl b.front b.more))
         (place_three (record { longest = p; channels = cs; calls = b.xs }) (suc (suc (length (cl ++ b.front)))) k (omega arith))
         (λ ds js v fits_channels fits_calls e h. b.stops js [] v fits_calls (after_channels b.front v ds js fits_channels e) h)
+
+    pub stops_in_calls : (k : ℕ) → BrokenAt call_words call_mats after k → StopsAt ls (3, k)
+    stops_in_calls k broken = breaks_in_calls k (breaks call_words call_mats (Bulk 0) ((omega arith, tt), tt) after k broken)
 
     pub stops_after_calls : (ks : List Call) {end others : List (List ℕ)} (l : List ℕ) → FitSection call_words call_mats ks × (after ≡ section call_words ks ++ end) → end ≡ l ∷ others → StopsAt ls (3, length ks + 1)
     stops_after_calls ks {end} {others} l (fit, split) more =

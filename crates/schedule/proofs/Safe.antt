@@ -25,12 +25,18 @@ use Rattle.schedule.proofs.Timely.{WaitingInTime}
 abbrev pub Safe : {K : Type 0} → (K → Numbers) → (ℕ → ℕ) → List K → Type 0
 Safe numbers β ks = (t : ℕ) → Fits β (curves numbers ks) t
 
--- they stay so when a channel is dropped, and when an allowance is raised
+-- Safe channels stay safe where demand and blocking together rise at no t.
+
+pub safe_less : {K : Type 0} (numbers : K → Numbers) (β β' : ℕ → ℕ) (ks ks' : List K) →
+    ((t : ℕ) → 0 < curves numbers ks' t → (0 < curves numbers ks t) × (curves numbers ks' t + β' t ≤ curves numbers ks t + β t)) → Safe numbers β ks → Safe numbers β' ks'
+safe_less numbers β β' ks ks' less safe t some = omega (arith, (less t some).1, safe t (less t some).0)
+
+-- a channel is dropped
 pub safe_dropped : {K : Type 0} (numbers : K → Numbers) (β : ℕ → ℕ) (xs : List K) (k : K) (ys : List K) → Safe numbers β (xs ++ k ∷ ys) → Safe numbers β (xs ++ ys)
-safe_dropped numbers β xs k ys safe t some =
+safe_dropped numbers β xs k ys = safe_less numbers β β (xs ++ k ∷ ys) (xs ++ ys) λ t some.
     let a = Sums.total-append (λ k. (numbers k).curve t) xs (k ∷ ys) in
     let b = Sums.total-append (λ k. (numbers k).curve t) xs ys in
-    omega (arith, safe t (omega arith))
+    (omega arith, omega arith)
 
 -- a longer allowance lowers a curve at every t
 pub curve_raised : (p e : ℕ) (n n' : Numbers) → CurveLaws p n → CurveLaws p n' → Redated n e n' → n.allowance ≤ e → (t : ℕ) → n'.curve t ≤ n.curve t
@@ -43,13 +49,14 @@ curve_raised p e n n' laws laws' re l t = elim (cases_lt t e) [
       omega (arith, laws.never_falls (n.allowance + i) t (omega arith))
 ]
 
+-- an allowance is raised
 pub safe_raised : {K : Type 0} (numbers : K → Numbers) (β : ℕ → ℕ) (p e : ℕ) (xs : List K) (k k' : K) (ys : List K) →
     CurveLaws p (numbers k) → CurveLaws p (numbers k') → Redated (numbers k) e (numbers k') → (numbers k).allowance ≤ e → Safe numbers β (xs ++ k ∷ ys) → Safe numbers β (xs ++ k' ∷ ys)
-safe_raised numbers β p e xs k k' ys laws laws' re l safe t some =
+safe_raised numbers β p e xs k k' ys laws laws' re l = safe_less numbers β β (xs ++ k ∷ ys) (xs ++ k' ∷ ys) λ t some.
     let a = Sums.total-append (λ k. (numbers k).curve t) xs (k ∷ ys) in
     let b = Sums.total-append (λ k. (numbers k).curve t) xs (k' ∷ ys) in
     let c = curve_raised p e (numbers k) (numbers k') laws laws' re l t in
-    omega (arith, safe t (omega arith))
+    (omega arith, omega arith)
 
 -- What is owed can be sent in time.
 

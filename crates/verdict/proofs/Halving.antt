@@ -1,6 +1,6 @@
 -- The range of allowances that halving keeps: its upper end passes, its lower end does not.
-use Rattle.std.proofs.Common.{◌≡◌, ℕ, ◌+◌, ◌-◌, ◌<◌, ◌≤◌, Bool, List, [], ◌∷◌, ◌++◌, Err, Result, sym, subst, inl, inr, arith}
-use Rattle.traffic.specs.Curves.{Numbers}
+use Rattle.std.proofs.Common.{◌≡◌, ℕ, zero, suc, ◌+◌, ◌-◌, ◌<◌, ◌≤◌, Bool, List, [], ◌∷◌, ◌++◌, Err, Result, sym, subst, inl, inr, arith}
+use Rattle.traffic.specs.Curves.{Numbers, Rises}
 use Rattle.verdict.specs.Demand.{curves, horizon, blocking}
 use Rattle.verdict.specs.Judged.{Judgeable, Judged}
 use Rattle.verdict.specs.Least.{beside, LeastIs, Least}
@@ -54,6 +54,11 @@ module _ {K : Type 0} (m : K → Numbers) (limits : K → ℕ → Bool) (dated :
 
   pub halves_up : {low high point : ℕ} (middle : ℕ) → Between m dated p ks k low high point → low < middle → middle < high → (failing count : ℕ) → (Passes m (blocking p) (beside m dated p ks k middle) → ⊥) → FirstFailing (blocking p) (curves m (beside m dated p ks k middle)) (horizon m (beside m dated p ks k middle)) failing count → Between m dated p ks k middle high failing
   halves_up middle b above below failing count not first = record { order = below; floor = omega (arith, b.floor); most = b.most; passes = b.passes; lower = fails (omega (arith, b.floor)) not count first }
+
+-- no point of a function that is 0 at 0 lies at 0
+pub point_positive : (F : ℕ → ℕ) (t : ℕ) → F 0 ≡ 0 → Rises F t → 0 < t
+point_positive F zero none up = absurd (omega arith)
+point_positive F (suc t) none up = omega arith
 
 -- a refusal at the longest allowance
 pub least_refused : {K : Type 0} (m : K → Numbers) (limits : K → ℕ → Bool) (dated : K → ℕ → K) (law : Lawful m limits dated) (p rows : ℕ) (ks : List K) (k : K) → Judgeable limits p rows (ks ++ dated k 40320 ∷ []) → (e : Unfit) → Judged m limits p rows (beside m dated p ks (dated k 40320) 40320) (Err e) → Least m limits dated p rows ks k (Err e)

@@ -224,7 +224,10 @@ module _ {K S : Type 0} (m : K → Numbers) (limits : K → ℕ → Bool) (shape
       pub walk_enters : Sweep rc (length (places c)) q.t (q.t + 1) end ps sum
       walk_enters = enter rc up (length (places c)) end all_curves (rows_sum m (places c)) far s q front.0 front.1 first
 
-      walk_inside : q.t < end
+      pub walk_later : t < q.t
+      walk_later = point_after_lem rc up (length (places c)) end all_curves (rows_sum m (places c)) far s q front.0 front.1 first
+
+      pub walk_inside : q.t < end
       walk_inside = point_inside rc up (length (places c)) end all_curves (rows_sum m (places c)) far s q front.0 front.1 first
 
       module _ {more : ℕ} {qs : List Point} (after : Sweep rc (length (places c)) (q.t + 1) (q.t + 1) end qs more) where

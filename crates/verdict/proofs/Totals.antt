@@ -1,9 +1,9 @@
 -- Sums, the largest and what holds of all, over the channels at the first places, with one place more.
-use Rattle.std.proofs.Common.{◌≡◌, ℕ, zero, suc, ◌+◌, ◌<◌, ◌≤◌, Bool, true, List, [], ◌∷◌, ◌++◌, length, get_or, take, Some, None, Option, sym, refl, ap, ◌∙◌, subst, arith, append-nil}
+use Rattle.std.proofs.Common.{◌≡◌, ℕ, zero, suc, ◌+◌, ◌<◌, ◌≤◌, max, Bool, true, List, [], ◌∷◌, ◌++◌, length, get_or, take, Some, None, Option, sym, refl, ap, ◌∙◌, subst, arith, append-nil}
 use Rattle.std.specs.List.{AllByRecursion}
 use Rattle.traffic.specs.Curves.{Numbers}
 use Rattle.traffic.specs.Laws.{Within, CurveLaws}
-use Rattle.verdict.specs.Demand.{total, curves}
+use Rattle.verdict.specs.Demand.{total, largest, curves}
 use Rattle.verdict.specs.Judged.{Judgeable}
 use Rattle.verdict.specs.Members.{present, places, members, size}
 use Rattle.verdict.specs.declared.channels.Channels.{Channels}
@@ -30,12 +30,23 @@ module _ {K : Type 0} (f : K → ℕ) where
   total-push [] k = omega arith
   total-push (x ∷ ks) k = omega (arith, total-push ks k)
 
+  pub largest_push : (ks : List K) (k : K) → largest f (ks ++ k ∷ []) ≡ max (largest f ks) (f k)
+  largest_push [] k = omega arith
+  largest_push (x ∷ ks) k = omega (arith, largest_push ks k)
+
   -- the sum with the channel of one place more, or as it was
   pub total-one : (os : List (Option K)) (i : ℕ) → i < length os → (k : K) → Some k ≡ get_or os i None → total f (present (take (i + 1) os)) ≡ total f (present (take i os)) + f k
   total-one os i inside k is = ap (total f) (one_more os i inside k is) ∙ total-push (present (take i os)) k
 
   pub total-none : (os : List (Option K)) (i : ℕ) → i < length os → None ≡ get_or os i None → total f (present (take (i + 1) os)) ≡ total f (present (take i os))
   total-none os i inside is = ap (total f) (none_more os i inside is)
+
+  -- and so the largest
+  pub largest_one : (os : List (Option K)) (i : ℕ) → i < length os → (k : K) → Some k ≡ get_or os i None → largest f (present (take (i + 1) os)) ≡ max (largest f (present (take i os))) (f k)
+  largest_one os i inside k is = ap (largest f) (one_more os i inside k is) ∙ largest_push (present (take i os)) k
+
+  pub largest_none : (os : List (Option K)) (i : ℕ) → i < length os → None ≡ get_or os i None → largest f (present (take (i + 1) os)) ≡ largest f (present (take i os))
+  largest_none os i inside is = ap (largest f) (none_more os i inside is)
 
 module _ {K : Type 0} (limits : K → ℕ → Bool) (p n : ℕ) (os : List (Option K)) (judged : Judgeable limits p n (present os)) (i : ℕ) (k : K) (is : Some k ≡ get_or os i None) where
   -- the channel at a place of a judged table keeps its limits

@@ -16,7 +16,7 @@ use Rattle.refusals.specs.declared.Refusal.{Refusal}
 use Rattle.lines.specs.Lines.{channel_line_lem}
 use Rattle.lines.specs.declared.Line.{Line}
 use Rattle.lines.specs.declared.Line.TheVariants as shown
-use Rattle.whole_answers.specs.Kinds.{LinkCall, LinkModel, LinkHistory, kind_numbers, kind_limits, kind_steps}
+use Rattle.whole_answers.specs.Kinds.{LinkCall, LinkModel, LinkHistory, kind_numbers, kind_limits, kind_dated, kind_steps}
 use Rattle.whole_answers.specs.Plans.{Join, joining, Pass, none, one_more, Tick, all, stopped, Make, InTurn, begin, next}
 use Rattle.whole_answers.specs.Prints.{end_line, lines_at, lines_of}
 use Rattle.whole_answers.specs.Parts.{Part}
@@ -101,7 +101,7 @@ module _ (m : LinkModel) (ls : List Line) where
       let there = before start first cs so in
       let ds = there.0 in
       let h : LinkHistory start (ticked (Ok carried) ∷ ds) o = history.tick (Ok carried) there.2.history said in
-      let since = history_clock start o (ticked (Ok carried) ∷ ds) h in
+      let since = history_clock kind_numbers kind_limits kind_steps kind_dated h in
       let zero-start = so.opened in
       let clock : o.clock ≡ clock_of (happenings ds) + 1 = omega arith in (
         ticked (Ok carried) ∷ ds,
