@@ -42,9 +42,7 @@ impl<'a, K: Traffic> Link<'a, K> {
         if self.serials == u32::MAX {
             return Err(Refusal::NoRow);
         }
-        let longest = self.longest;
-        let counted = self.table.counted();
-        let count = self.channels(&counted).with(kind).judge(longest)?;
+        let count = self.judged(kind)?;
         let state = kind.fresh();
         let hold = self.fill(i, mat, Row { kind, state });
         Ok((hold, count))

@@ -1,6 +1,7 @@
 // The link's rows, and its opening.
 ghost use Rattle.std.specs.Prelude.{◌≡◌, ℕ, ◌+◌, ◌<◌, ◌≤◌, Bool, true, false, [], ◌∷◌, ◌++◌, length, IfSome, Some, Ok, Err, map, if◌then◌else◌, slice_index_or};
 ghost use Rattle.std.specs.List.{slice_get};
+ghost use Rattle.verdict.specs.Judged.{Judged};
 ghost use Rattle.verdict.specs.Members.{members, rows_counted, size};
 ghost use Rattle.link.specs.Holding.{Vacant, hold_of, filled};
 ghost use Rattle.link.specs.Model.{model, opened, find, channels, with_rows, on_entry, on_row};
@@ -13,6 +14,7 @@ use crate::state::{Event, Hold, Link, Mat, Packet, Phase, Record, Table};
 use pool::Pool;
 use refusals::Refusal;
 use traffic::{Row, Traffic};
+use verdict::Verdict;
 use verdict::channels::Channels;
 
 impl<'a, K: Traffic> Link<'a, K> {
@@ -156,6 +158,15 @@ impl<'a, K: Traffic> Link<'a, K> {
             mat,
             serial,
         }
+    }
+
+    // What the verdict says of the counted channels with one more: a function of its own, so that a hold refused before it costs less.
+    pub(crate) fn judged(&self, kind: K) -> Verdict
+        requires { (model self.now).terms.shut ≡ false }
+        ensures { Judged K.Curve.numbers K.Curve.limits self.now.longest (length (model self.now).rows) (channels (model self.now).rows ++ kind ∷ []) result }
+    {
+        let counted = self.table.counted();
+        self.channels(&counted).with(kind).judge(self.longest)
     }
 
     // The counted channels, by these marks of the counted rows.
